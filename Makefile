@@ -5,7 +5,8 @@ JOBS ?=
 
 SOURCES := crates.txt $(shell find crates -name '*.rt' -o -name '*.antt' | grep -v /out/)
 
-.PHONY: help run serve try demo build gateway check test edits bench soak fuzz tools tools-test deb install fmt clean
+.PHONY: help run serve try demo build gateway check acceptance test edits bench soak fuzz tools tools-test deb install \
+    fmt clean
 
 # Two proofs at once would work in one folder.
 .NOTPARALLEL:
@@ -16,34 +17,6 @@ PREFIX ?= /usr/local
 TOOL_PACKAGES := mandoc man-db tshark gnuplot-nox python3 python3-prometheus-client postgresql systemd bash-completion \
     binutils dpkg-dev lintian zstd socat iproute2 iperf3 iputils-ping chromium prometheus curl
 
-# The proved programs go to bin/ with their command, and the programs of tests/ play them.
-define acceptance
-mkdir -p bin
-cp tools/stridelink bin/stridelink
-cp crates/stridelink/out/stridelink bin/stridelink-script
-cp crates/link/out/link bin/stridelink-link
-cp crates/gateway/out/gateway bin/stridelink-gateway
-tests/compare.sh
-tests/faults.sh
-tests/answers.sh
-tests/face.sh
-tests/slow-reader.py
-tests/terminal.py
-examples/session.py
-tests/serve.py
-tests/hostile.py
-tests/bill.py
-tests/fuzz.py
-tests/gateway.py
-tests/datagrams.py
-tests/downlink.py
-tests/ask.py
-tests/web.py
-tests/hostile_gateway.py all_at_once
-STRIDELINK=bin/stridelink-script tests/bill.py
-tests/books.py
-endef
-
 help:
 	@echo 'make try         runs an example, with nothing proved'
 	@echo 'make demo        plays a gateway with four tenants in this terminal, with nothing proved'
@@ -53,6 +26,7 @@ help:
 	@echo 'make gateway     proves and builds bin/stridelink-gateway'
 	@echo 'make check       proves what changed since the last check, then runs all tests'
 	@echo 'make test        passes the gate: docs/GATE.md'
+	@echo 'make acceptance  plays the programs that the gate proved with those of tests/, as the end of the gate does'
 	@echo 'make edits       tries the wrong bodies that the gate leaves out'
 	@echo 'make bench       measures the program'
 	@echo 'make soak        puts long loads on a server and a gateway, and counts shares at the far ends of uplinks and'
@@ -82,7 +56,34 @@ demo:
 check:
 	@echo 'proving what changed since the last check, then all tests: an hour where nothing is kept' >&2
 	RT_SECONDS=120 .ci/rt all test
-	$(acceptance)
+	$(MAKE) acceptance
+
+# The proved programs go to bin/ with their command, and the programs of tests/ play them.
+acceptance:
+	mkdir -p bin
+	cp tools/stridelink bin/stridelink
+	cp crates/stridelink/out/stridelink bin/stridelink-script
+	cp crates/link/out/link bin/stridelink-link
+	cp crates/gateway/out/gateway bin/stridelink-gateway
+	tests/compare.sh
+	tests/faults.sh
+	tests/answers.sh
+	tests/face.sh
+	tests/slow-reader.py
+	tests/terminal.py
+	examples/session.py
+	tests/serve.py
+	tests/hostile.py
+	tests/bill.py
+	tests/fuzz.py
+	tests/gateway.py
+	tests/datagrams.py
+	tests/downlink.py
+	tests/ask.py
+	tests/web.py
+	tests/hostile_gateway.py all_at_once
+	STRIDELINK=bin/stridelink-script tests/bill.py
+	tests/books.py
 
 build: bin/stridelink bin/stridelink-script bin/stridelink-link
 
@@ -111,10 +112,10 @@ test:
 	.ci/kit
 	.ci/costs record .ci/rt ci
 	.ci/costs record --more .ci/edits --named --built
-	.ci/memory
-	.ci/places
-	.ci/yields
-	$(acceptance)
+	.ci/costs record --more .ci/memory
+	.ci/costs record --more .ci/places
+	.ci/costs record --more .ci/yields
+	.ci/costs record --more $(MAKE) acceptance
 	.ci/costs
 
 edits:

@@ -11,7 +11,7 @@ use std::fs::{File, Files};
 use std::io::Eprint;
 use std::time::Clock;
 
-/// What was done with a book.
+/// The state of a book after its recovery.
 #[derive(Clone, Copy, Debug)]
 struct Done(RecoveredBook);
 

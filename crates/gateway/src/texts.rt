@@ -11,10 +11,10 @@ use std::process::ExitCode;
 /// The status of wrong words.
 const USAGE: u8 = 2;
 
-/// What is printed if standard output takes no text.
+/// The text that is printed if standard output takes no text.
 pub(crate) const NO_OUTPUT: &str = "cannot write the output";
 
-/// What is printed if memory is refused.
+/// The text that is printed if memory is refused.
 pub(crate) const NO_MEMORY: &str = "out of memory";
 
 /// Shows a text of `clap`. Wrong words have their status even if standard error does not take the text.

@@ -30,7 +30,7 @@ use std::time::Clock;
 /// The program that runs scripts and bills books.
 const SCRIPTS: &str = "stridelink-script";
 
-// Serves the link that is asked for, and tells what went wrong.
+// Serves the link that is asked for, and prints its faults.
 fn serve_given<'a, R, I>(rt: &'a R, alloc: Global, orders: ServeOrders<'_>, input: I) -> ExitCode
 where
     R: Net<Listener = TcpListener, Stream = TcpStream> + Files + Threads + Wait + Clock,

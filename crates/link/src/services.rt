@@ -5,7 +5,7 @@ ghost use Rattle.share_base.specs.declared.version.Version.TheVariants.{Two};
 
 use share_base::Version;
 use share_journal::Journal;
-use share_served::{AuditFile, Reason, ServeFault, Sockets, has_file};
+use share_served::{AuditFile, Reason, RunFault, ServeFault, Sockets, has_file};
 use share_words::{ServeOrders, Shown};
 use std::alloc::Global;
 use std::fs::Files;
@@ -35,7 +35,7 @@ pub enum Unserved<'a> {
     Connect(Shown<'a>, Reason),
     /// The run had a fault.
     #[error("{0}")]
-    Run(ServeFault),
+    Run(RunFault),
 }
 
 fn listen<'a, R: Net<Listener = TcpListener, Stream = TcpStream>>(
@@ -129,7 +129,7 @@ where
 
 /// The fault of a run whose audit goes to this file, if there is one, and why the audit was not written.
 pub fn result_of_run<'a>(
-    served: Result<(), ServeFault>,
+    served: Result<(), RunFault>,
     audit: &'a str,
     why: Option<io::Error>,
 ) -> Result<(), Unserved<'a>>
@@ -137,7 +137,7 @@ pub fn result_of_run<'a>(
 {
     match served {
         Ok(()) => Ok(()),
-        Err(ServeFault::Audit) => {
+        Err(fault) if fault.kind == ServeFault::Audit => {
             let why = why.unwrap_or(io::Error::from(ErrorKind::Other));
             Err(Unserved::Audit(Shown(audit), Reason(why)))
         }
@@ -145,14 +145,14 @@ pub fn result_of_run<'a>(
     }
 }
 
-/// Tells what went wrong in a service, if something did.
+/// Prints the fault of a service, if there is one.
 pub fn tell_served(rt: &impl Eprint, served: Result<(), Unserved<'_>>) -> ExitCode
     ensures { MatchResult served.entry (λ _. exit_status result ≡ 0) (λ _. exit_status result ≡ 1) }
 {
     match served {
         Ok(()) => ExitCode::SUCCESS,
         Err(fault) => {
-            // The status tells the fault even if standard error takes no text.
+            // The exit status shows the fault even if standard error takes no text.
             let _ = eprintln!(rt; "stridelink: {fault}");
             ExitCode::FAILURE
         }

@@ -1,4 +1,4 @@
-//! What no contract says of a link and its journal.
+//! Tests of a link and its journal, beside its contracts.
 
 mod allocator;
 mod assertions;

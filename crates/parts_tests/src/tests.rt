@@ -1,4 +1,4 @@
-//! What no contract says of the parts of a link: worked rows, texts, memory, and what is called how often.
+//! Tests of the parts of a link beside their contracts: worked rows, texts, memory, and what is called how often.
 
 mod allocator;
 mod assertions;

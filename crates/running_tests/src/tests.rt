@@ -1,4 +1,4 @@
-//! What no contract says of a running link.
+//! Tests of a running link beside its contracts.
 
 mod allocator;
 mod assertions;

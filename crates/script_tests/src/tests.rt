@@ -1,4 +1,4 @@
-//! What no contract says of scripts and reports.
+//! Tests of scripts and reports beside their contracts.
 
 use share_base::Version;
 

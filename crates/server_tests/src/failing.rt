@@ -7,7 +7,7 @@ use std::fs::{Files, Metadata, OpenFile, OpenOptions, Permissions};
 use std::io;
 use std::io::{Eprint, Error, ErrorKind, Read, Seek, SeekFrom, Write};
 
-/// What a write call answers.
+/// The answer of a write call.
 #[derive(Clone, Copy, Debug)]
 pub enum Taken {
     /// It takes at most this many bytes.

@@ -1,4 +1,4 @@
-//! What no contract says of a server.
+//! Tests of a server beside its contracts.
 
 mod audit;
 mod control;

@@ -1,5 +1,6 @@
 -- The steps that were made of a book, of which something is known.
-use Rattle.std.proofs.Common.{◌≡◌, ◌≢◌, ◌⊎◌, ◌+◌, ◌≤◌, ℕ, inl, inr, Option, None, Some, Result, Ok, Err, arith, sym, subst, ◌∙◌, refl}
+use Rattle.std.proofs.Common.{◌≡◌, ◌≢◌, ◌⊎◌, ◌+◌, ◌≤◌, ℕ, inl, inr, Option, None, Some, Result, Ok, Err, arith, sym}
+use Rattle.std.proofs.Common.{subst, ◌∙◌, refl}
 use Rattle.std.specs.Prelude.{IfSome, IfOk, ⊤}
 use Rattle.std.specs.Option.{ForSome}
 use Rattle.std.proofs.lemmas.Option.{same_Some}
@@ -9,7 +10,7 @@ use Rattle.share_archive.specs.declared.plan.BookState.{BookState}
 use Rattle.share_archive.specs.declared.plan.Step.{Step}
 use Rattle.share_archive.proofs.StepLemmas.{less, few}
 
--- so many steps were made
+-- that many steps were made
 abbrev pub HasMade : Option BookState → Option BookState → ℕ → Type 0
 HasMade None new n = ⊤
 HasMade (Some from) None n = ⊥
@@ -19,7 +20,7 @@ pub none_made : (known : Option BookState) → HasMade known known 0
 none_made None = tt
 none_made (Some book) = (began, omega (arith, few book))
 
--- what a look saw
+-- the files that a look saw
 abbrev pub IsSeen : Option BookState → BookState → Type 0
 IsSeen known book = IfSome known (λ b. book ≡ b)
 
@@ -39,7 +40,7 @@ one_more (Some from) (Some b) new step book n made seen may is =
     subst (λ o. HasMade (Some from) o (n + 1)) (sym is)
     (whole b step made.0 may_b, omega (arith, fewer, left))
 
--- whatever a failed step did, the files have what steps lead to
+-- the files have what steps lead to, after any failed step
 pub still_reached : (from known : Option BookState) (n : ℕ) → HasMade from known n
     → IfSome from (λ f. IfSome known (Reaches f))
 still_reached None known n made = tt

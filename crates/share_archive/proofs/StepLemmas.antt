@@ -1,7 +1,9 @@
 -- Each step that may be made, whole or cut short, keeps what the book comes to.
 use Rattle.std.proofs.Common.{◌≡◌, ◌+◌, ◌≤◌, inl, inr, Bool, true, false, arith, sym, ◌∙◌, refl}
-use Rattle.share_archive.specs.Steps.{settled, settled_text, report_of, row_of, without_cut, after, cut_short, May, HasReport}
-use Rattle.share_archive.specs.Steps.{HasRow, IsUncut, Reaches, began, whole, killed, steps_left, text_left, report_left}
+use Rattle.share_archive.specs.Steps.{settled, settled_text, report_of, row_of, without_cut, after, cut_short, May}
+use Rattle.share_archive.specs.Steps.{HasReport}
+use Rattle.share_archive.specs.Steps.{HasRow, IsUncut, Reaches, began, whole, killed, steps_left, text_left}
+use Rattle.share_archive.specs.Steps.{report_left}
 use Rattle.share_archive.specs.Steps.{cut_left, missing_left, row_left, file_left}
 use Rattle.share_archive.specs.declared.plan.BookState.{BookState}
 use Rattle.share_archive.specs.declared.plan.BookText.{BookText}

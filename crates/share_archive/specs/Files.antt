@@ -1,4 +1,4 @@
--- What a step makes of the files of a book.
+-- The effect of a step on the files of a book.
 use Rattle.std.specs.Prelude.{◌≡◌, ◌⊎◌, Option, Some, None, ⊤}
 use Rattle.share_archive.specs.Steps.{after, cut_short}
 use Rattle.share_archive.specs.declared.plan.BookState.{BookState}

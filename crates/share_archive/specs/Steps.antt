@@ -9,7 +9,7 @@ use Rattle.share_archive.specs.declared.plan.Step.{Step}
 use Rattle.share_archive.specs.declared.plan.Step.TheVariants.{CutRow, RemovePart, RemoveText, CloseText, MarkBad}
 use Rattle.share_archive.specs.declared.plan.Step.TheVariants.{WriteReport, RemoveReport, AppendRow, RemoveTariffs}
 
--- What a book comes to
+-- The final state of a book
 
 -- a run is closed, another text is set aside, and one without a first line is removed
 abbrev pub settled_text : BookText → BookText
@@ -105,7 +105,7 @@ May RemoveTariffs s = (s.tariffs ≡ true) × HasRow s
 
 -- Any number of starts and kills
 
--- what the folder may have of a book after steps that may be made, each whole or cut short
+-- the files that the folder may have of a book after steps that may be made, each whole or cut short
 pub data Reaches (from : BookState) : BookState → Type 0 where
   began : Reaches from from
   whole : (s : BookState) (step : Step) → Reaches from s → May step s → Reaches from (after step s)

@@ -1,5 +1,5 @@
-//! The order in which a book on disk is closed and recovered, so that a kill at any moment changes nothing of what the
-//! folder comes to. The caller looks at the folder and makes the steps.
+//! The order in which a book on disk is closed and recovered. A kill at any moment changes nothing of the final state
+//! of the folder. The caller looks at the folder and makes the steps.
 #![tactic(auto)]
 
 mod laws;

@@ -1,4 +1,4 @@
-//! What is to be done with the files of a book.
+//! The steps that are left for the files of a book.
 ghost use Rattle.std.specs.Prelude.{◌≡◌, true, false, MatchOption};
 ghost use Rattle.share_archive.specs.Steps.{May, settled, HasReport, HasRow, IsUncut};
 
@@ -26,7 +26,7 @@ pub enum RowState {
     Whole,
 }
 
-/// What a folder has of a book.
+/// The files of a book in a folder.
 #[derive(Clone, Copy, Debug, PartialEq, Eq)]
 pub struct BookState {
     pub text: BookText,

@@ -22,7 +22,8 @@ use std::io;
 use std::io::{BufReader, Eprint, Print, Printer, Read};
 use std::process::ExitCode;
 
-// Tells which line was refused, and how. The status says that a line was refused even if standard error takes no text.
+// Prints which line was refused, and how. The exit status says that a line was refused even if standard error takes
+// no text.
 fn tell_refusal<I: TellingReader, O: TellingWriter>(
     rt: &impl Eprint,
     input: &LineReader<I>,
@@ -34,7 +35,7 @@ fn tell_refusal<I: TellingReader, O: TellingWriter>(
     let _ = eprintln!(rt; "stridelink: line {number}, '{line}': {answer}");
 }
 
-// Runs a script up to its first refused line, which standard error tells. The status says whether there was none.
+// Runs a script up to its first refused line, which standard error names. The exit status says whether there was one.
 fn run_to_refusal<S: Rates + Drop, I: TellingReader, O: TellingWriter>(
     rt: &impl Eprint,
     alloc: Global,

@@ -1,5 +1,7 @@
 -- Rows and replies that pass one after the other.
-use Rattle.std.proofs.Common.{◌≡◌, ◌∙◌, ◌++◌, ◌∷◌, ◌||◌, ◌+◌, ◌<◌, [], ℕ, All, Bool, Bor, List, None, Option, Some, add-one, ap, append_assoc, arith, codes, drop, false, get_or, length, map, refl, suc, sym, take, true, zero}
+use Rattle.std.proofs.Common.{◌≡◌, ◌∙◌, ◌++◌, ◌∷◌, ◌||◌, ◌+◌, ◌<◌, [], ℕ, All, Bool, Bor, List, None, Option, Some}
+use Rattle.std.proofs.Common.{add-one, ap, append_assoc, arith, codes, drop, false, get_or, length, map, refl, suc, sym}
+use Rattle.std.proofs.Common.{take, true, zero}
 use Rattle.std.proofs.Math.Seq.{take-add, take-suc}
 use Rattle.std.proofs.lemmas.Grind.{flat_map-append}
 use Rattle.std.proofs.lemmas.List.{append-nil, map-append}
@@ -135,7 +137,8 @@ answered_report a b c o p q line row refused first others goes same =
     let rows : List (List ℕ) = others.rows in
     let whole : MatchBool (goes_on line row) (IsToEnd rows) (rows ≡ []) = rw goes others.to_end in
     let is : IsReply line (row ∷ rows) = record { first = row; others = rows; rows = refl; whole = whole } in
-    answered_one a c o q line (row ∷ rows) is (passed_append a b c o p q (row ∷ []) rows first others.passed) refused same
+    answered_one a c o q line (row ∷ rows) is (passed_append a b c o p q (row ∷ []) rows first others.passed) refused
+    same
 
 -- the texts of the first lines, and of one more
 pub texts_suc : (lines : List (Bor (List ℕ))) (i : ℕ) (d : Bor (List ℕ)) → i < length lines

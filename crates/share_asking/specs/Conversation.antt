@@ -1,4 +1,4 @@
--- What is sent to the peer, and which of its bytes are printed, where a reader and a writer know their bytes.
+-- The bytes that are sent to the peer and those that are printed, if a reader and a writer know their bytes.
 use Rattle.std.specs.Prelude.{◌≡◌, ◌≢◌, ◌++◌, ◌∷◌, [], ℕ, All, Bool, List, MatchBool, Option, codes, false}
 use Rattle.std.specs.Io.KnownBytes.{Appends, Consumes}
 use Rattle.std.specs.List.{flat_map, list_any}

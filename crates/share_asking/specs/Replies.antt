@@ -1,4 +1,4 @@
--- What a control line is answered, by rows without their line feeds.
+-- The answer to a control line, by rows without their line feeds.
 use Rattle.std.specs.Prelude.{Bool, List, ℕ, ◌&&◌, codes, nat_eq, not}
 use Rattle.std.specs.List.{starts_with}
 use Rattle.std.specs.Str.{bytes_eq}

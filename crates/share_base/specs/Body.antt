@@ -12,7 +12,7 @@ is_payload_length n = nat_le 1 n && nat_le n 9000
 abbrev pub payload_refusal : List ℕ → Option Refusal
 payload_refusal bytes = first_refusal ((not (is_payload_length (length bytes)), Range) ∷ [])
 
--- what a contract sees of a body: the bytes last stamped before its payload, none before a stamp, and the payload
+-- the view of a body in contracts: the bytes last stamped before its payload, none before a stamp, and the payload
 pub record BodyView : Type 0 where
   pub stamped : List ℕ
   pub payload : List ℕ
@@ -29,6 +29,6 @@ IsUnstamped body = body.stamped ≡ []
 abbrev pub IsHeaderLength : ℕ → Type 0
 IsHeaderLength n = (n ≡ 12) ⊎ (n ≡ 17)
 
--- what is stamped, and the payload behind it
+-- the stamped bytes, and the payload after them
 abbrev pub framed_bytes : BodyView → List ℕ
 framed_bytes body = body.stamped ++ body.payload

@@ -1,4 +1,4 @@
-//! What a link is asked to do, and what it answers.
+//! Requests to a link, and its answers.
 ghost use Rattle.std.specs.Prelude.{◌≡◌};
 
 use crate::naming::Name;
@@ -38,7 +38,7 @@ pub enum Command {
 /// The answer to a command or an arrival.
 #[derive(Clone, Copy, Debug, PartialEq, Eq)]
 pub enum Reply {
-    /// What was asked is done, and there is nothing to tell.
+    /// The request is done, and there is nothing to return.
     Done,
     /// The number of the ticket that was made.
     Ticket(TicketNo),
@@ -94,7 +94,7 @@ pub enum Turn {
     Spent,
 }
 
-/// What can happen to a link. Refused commands and arrivals are events too.
+/// An event of a link. Refused commands and arrivals are events too.
 #[derive(Drop)]
 pub enum Event {
     /// A command was made.

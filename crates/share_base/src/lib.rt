@@ -12,6 +12,6 @@ mod version;
 pub use command::{Command, Event, Outcome, Reply, Turn};
 pub use naming::{MAX_NAME, Name};
 pub use number::{FlowNo, TicketNo};
-pub use parcel::{Body, MAX_IN_PLACE, Parcel};
+pub use parcel::{Body, MAX_IN_PLACE, Parcel, ZeroFrame};
 pub use refusal::Refusal;
 pub use version::{HEADER_ROOM, MAX_PAYLOAD, Version};

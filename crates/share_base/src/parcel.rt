@@ -1,5 +1,6 @@
 //! The payloads of packets, and the two copies in which a payload is handed in.
-ghost use Rattle.std.specs.Prelude.{◌≡◌, ◌<◌, ◌≤◌, ◌+◌, ◌-◌, ◌++◌, length, take, drop, IsOk, IfOk, IfErr, None};
+ghost use Rattle.std.specs.Prelude.{◌≡◌, ◌<◌, ◌≤◌, ◌+◌, ◌-◌, ◌++◌, length, take, drop, replicate};
+ghost use Rattle.std.specs.Prelude.{IsOk, IfOk, IfErr, None};
 ghost use Rattle.share_base.specs.Body.{payload_refusal, unstamped, framed_bytes, IsHeaderLength};
 ghost use Rattle.share_base.specs.Refusal.{IsRefused};
 
@@ -15,24 +16,37 @@ pub const MAX_IN_PLACE: usize = 16;
 /// How many bytes the value itself holds.
 const IN_PLACE: usize = HEADER_ROOM + MAX_IN_PLACE;
 
+/// How many bytes the longest frame has.
+const LONGEST_FRAME: usize = HEADER_ROOM + MAX_PAYLOAD;
+
+// The bytes of payloads of zeros.
+static ZEROS: [u8; MAX_PAYLOAD] = [0; MAX_PAYLOAD];
+
 /// The payload of a packet: 1 to 9000 bytes, with room for a header before them. Up to 16 are held in the value itself,
-/// more in memory of their own. A contract sees the bytes last stamped before the payload, and the payload.
+/// more in memory of their own. Of zeros the count alone may be kept. A contract sees the bytes last stamped before the
+/// payload, and the payload.
 pub struct Body {
-    // The room and the payload behind it.
+    // The room and the payload behind it; the room alone if the payload is zeros.
     bytes: SmallVec<u8, IN_PLACE>,
+    // How many zeros the payload is, and 0 if its bytes are held.
+    zeros: u16,
     // How many bytes of the room are stamped, those next to the payload.
-    stamped: usize,
+    stamped: u8,
 }
 
 impl Drop for Body {
     fn drop(self) {
-        let Body { bytes, stamped: _ } = self;
+        let Body {
+            bytes,
+            zeros: _,
+            stamped: _,
+        } = self;
         drop(bytes);
     }
 }
 
 impl Model for Body {
-    ghost use Rattle.std.specs.Prelude.{ℕ, List, length, take, drop, ◌≤◌, ◌+◌, ◌-◌};
+    ghost use Rattle.std.specs.Prelude.{ℕ, List, length, take, drop, replicate, ◌≡◌, ◌≤◌, ◌+◌, ◌-◌, ◌++◌, ◌⊎◌};
     ghost use Rattle.share_base.specs.Body.{BodyView};
     ghost use Rattle.share_base.specs.declared.version.TheConstants.{MAX_PAYLOAD, HEADER_ROOM};
 
@@ -40,13 +54,14 @@ impl Model for Body {
 
     ghost view = { λ body. record {
       stamped = take body.stamped (drop (HEADER_ROOM - body.stamped) body.bytes.items);
-      payload = drop HEADER_ROOM body.bytes.items;
+      payload = replicate body.zeros 0 ++ drop HEADER_ROOM body.bytes.items;
     } };
 
     ghost invariant = { λ body.
         (body.stamped ≤ HEADER_ROOM)
-        × (HEADER_ROOM + 1 ≤ length body.bytes.items)
-        × (length body.bytes.items ≤ HEADER_ROOM + MAX_PAYLOAD) };
+        × (HEADER_ROOM + 1 ≤ body.zeros + length body.bytes.items)
+        × (body.zeros + length body.bytes.items ≤ HEADER_ROOM + MAX_PAYLOAD)
+        × ((body.zeros ≡ 0) ⊎ (length body.bytes.items ≡ HEADER_ROOM)) };
 }
 
 impl Body {
@@ -65,11 +80,12 @@ impl Body {
         whole.extend_from_slice(bytes)?;
         Ok(Body {
             bytes: whole,
+            zeros: 0,
             stamped: 0,
         })
     }
 
-    /// Makes a payload, 1 to 9000 bytes, of the bytes behind the room for a header. It takes no memory.
+    /// Makes a payload, 1 to 9000 bytes, of the bytes after the room for a header. It takes no memory.
     pub fn from_vec(bytes: Vec<u8>) -> Body
         requires some { HEADER_ROOM + 1 ≤ length bytes.items }
         requires few { length bytes.items ≤ HEADER_ROOM + MAX_PAYLOAD }
@@ -77,11 +93,12 @@ impl Body {
     {
         Body {
             bytes: SmallVec::from_vec(bytes),
+            zeros: 0,
             stamped: 0,
         }
     }
 
-    /// Makes a payload of the first bytes, 1 to 16 of them, behind the room for a header. It takes no memory.
+    /// Makes a payload of the first bytes, 1 to 16 of them, after the room for a header. It takes no memory.
     pub fn from_array(alloc: Global, bytes: [u8; HEADER_ROOM + MAX_IN_PLACE], count: usize) -> Body
         requires some { 1 ≤ count }
         requires few { count ≤ MAX_IN_PLACE }
@@ -89,6 +106,20 @@ impl Body {
     {
         Body {
             bytes: SmallVec::from_buf_and_len(alloc, bytes, HEADER_ROOM + count),
+            zeros: 0,
+            stamped: 0,
+        }
+    }
+
+    /// Makes a payload of this many zeros, 1 to 9000. It takes no memory, and keeps their count alone.
+    pub fn zeros(alloc: Global, count: usize) -> Body
+        requires some { 1 ≤ count }
+        requires few { count ≤ MAX_PAYLOAD }
+        ensures { result ≡ unstamped (replicate count 0) }
+    {
+        Body {
+            bytes: SmallVec::from_buf_and_len(alloc, [0; IN_PLACE], HEADER_ROOM),
+            zeros: count as u16,
             stamped: 0,
         }
     }
@@ -99,7 +130,11 @@ impl Body {
         ensures some { 1 ≤ length self.now.payload }
         ensures few { length self.now.payload ≤ MAX_PAYLOAD }
     {
-        &self.bytes.as_slice()[HEADER_ROOM..]
+        if self.zeros > 0 {
+            &ZEROS[..self.zeros as usize]
+        } else {
+            &self.bytes.as_slice()[HEADER_ROOM..]
+        }
     }
 
     /// Writes a header, 12 or 17 bytes, before the payload, in place of the one before. It takes no memory.
@@ -108,14 +143,20 @@ impl Body {
         ensures { self.new ≡ record { stamped = header.now; payload = self.old.payload } }
     {
         write_header(self.bytes.as_mut_slice(), header);
-        self.stamped = header.len();
+        self.stamped = header.len() as u8;
     }
 
-    /// The bytes last stamped, none before a stamp, and the payload behind them.
-    pub fn framed(&self) -> &[u8]
+    /// The bytes last stamped, none before a stamp, and the payload behind them. They are the body's own, or, if the
+    /// payload is zeros, are shown in the frame.
+    pub fn framed_in<'a>(&'a self, frame: &'a mut ZeroFrame) -> &'a [u8]
         ensures { result.now ≡ framed_bytes self.now }
     {
-        &self.bytes.as_slice()[HEADER_ROOM - self.stamped..]
+        let held = &self.bytes.as_slice()[HEADER_ROOM - self.stamped as usize..];
+        if self.zeros > 0 {
+            frame.show(held, self.zeros as usize)
+        } else {
+            held
+        }
     }
 }
 
@@ -127,6 +168,50 @@ fn write_header(bytes: &mut [u8], header: &[u8])
         ≡ take (HEADER_ROOM - length header.now) bytes.old ++ (header.now ++ drop HEADER_ROOM bytes.old) }
 {
     bytes[HEADER_ROOM - header.len()..HEADER_ROOM].copy_from_slice(header);
+}
+
+/// Where a frame is shown whose payload is zeros, of which a body keeps the count alone. It takes no memory of its own.
+/// A contract sees nothing of it.
+pub struct ZeroFrame {
+    // Room for a header, and as many zeros as the longest payload has.
+    bytes: [u8; LONGEST_FRAME],
+}
+
+impl Drop for ZeroFrame {
+    fn drop(self) {
+        let ZeroFrame { bytes: _ } = self;
+    }
+}
+
+impl Model for ZeroFrame {
+    ghost use Rattle.std.specs.Prelude.{drop, replicate, ◌≡◌};
+    ghost use Rattle.share_base.specs.declared.version.TheConstants.{MAX_PAYLOAD, HEADER_ROOM};
+
+    ghost Value = { Unit };
+
+    ghost view = { λ frame. tt };
+
+    ghost invariant = { λ frame. drop HEADER_ROOM frame.bytes ≡ replicate MAX_PAYLOAD 0 };
+}
+
+impl ZeroFrame {
+    /// A frame of zeros.
+    pub fn new() -> ZeroFrame {
+        ZeroFrame {
+            bytes: [0; LONGEST_FRAME],
+        }
+    }
+
+    // A header, of no more bytes than there is room for, and this many zeros behind it.
+    fn show(&mut self, header: &[u8], count: usize) -> &[u8]
+        requires few { length header.now ≤ HEADER_ROOM }
+        requires zeros { count ≤ MAX_PAYLOAD }
+        ensures { result.now ≡ header.now ++ replicate count 0 }
+    {
+        write_header(&mut self.bytes, header);
+        let bytes = &self.bytes;
+        &bytes[HEADER_ROOM - header.len()..HEADER_ROOM + count]
+    }
 }
 
 /// A payload held twice, so that it can be sent and recorded with no further memory. A contract sees it as

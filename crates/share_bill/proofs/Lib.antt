@@ -1,10 +1,10 @@
 pub mod LineLemmas
 pub mod MakingLemmas
 pub mod OneBillLemmas
-pub mod RowsLemmas
+pub mod RowLemmas
 pub mod RunLemmas
 pub mod SeenLemmas
-pub mod SeenRowsLemmas
-pub mod SumsLemmas
+pub mod SeenRowLemmas
+pub mod SumLemmas
 pub mod TextLemmas
-pub mod TotalsLemmas
+pub mod TotalLemmas

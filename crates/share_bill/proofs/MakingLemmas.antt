@@ -1,4 +1,4 @@
--- What a line makes on the link of a bill.
+-- The effect of a line on the link of a bill.
 use Rattle.std.specs.Prelude.{◌≡◌, ◌≢◌, ◌<◌, ◌≤◌, ◌+◌, ◌==◌, ◌^◌, ◌&&◌, not, ℕ, Bool, true, false, List, length, take}
 use Rattle.std.specs.Prelude.{Option, None, Some, Result, Ok, Err, MatchBool, MatchOption, if◌then◌else◌}
 use Rattle.std.proofs.Common.{refl, ap, sym, ◌∙◌, subst, arith, inl, inr, length-take}
@@ -37,11 +37,11 @@ use Rattle.share_model.specs.link.Turns.{write_step, fault_step}
 use Rattle.share_model.specs.link.View.{LinkView}
 use Rattle.share_model.specs.stride.Moves.{charge}
 use Rattle.share_model.specs.run.Sound.{Sound, max_life}
-use Rattle.share_model.proofs.lemmas.link.TurnLaws.{events-below, written-step}
-use Rattle.share_model.proofs.lemmas.stride.LevelLaws.{clock-level_all}
-use Rattle.share_model.proofs.lemmas.run.SoundLaws.{rest-short, sending-short}
-use Rattle.share_model.proofs.lemmas.text.OfferLaws.{rest-some}
-use Rattle.share_model.proofs.lemmas.run.BytesLaws.{KeepsFrames, keeps-commanded, keeps-arrived}
+use Rattle.share_model.proofs.lemmas.link.TurnLemmas.{events-below, written-step}
+use Rattle.share_model.proofs.lemmas.stride.LevellingLemmas.{clock-level_all}
+use Rattle.share_model.proofs.lemmas.run.SoundLinkLemmas.{rest-short, sending-short}
+use Rattle.share_model.proofs.lemmas.text.OfferLemmas.{rest-some}
+use Rattle.share_model.proofs.lemmas.run.ByteLemmas.{KeepsFrames, keeps-commanded, keeps-arrived}
 use Rattle.share_bill.specs.declared.bill.line.Wrong.{Wrong}
 use Rattle.share_bill.specs.declared.bill.line.Wrong.TheVariants.{Spent as SpentLine, Idle as IdleLine}
 use Rattle.share_bill.specs.declared.bill.line.Wrong.TheVariants.{Sent as SentLine}
@@ -80,7 +80,8 @@ module _ {W : Type 0} (old : LinkView W) (book : IsBookLink old) where
 
 -- Commands
 
-as_kept : (flow : ℕ) (c : Command) (old new : Live) → IsKept (made_as flow c) old (Commanded c) (Replied (Flow flow)) new
+as_kept : (flow : ℕ) (c : Command) (old new : Live)
+    → IsKept (made_as flow c) old (Commanded c) (Replied (Flow flow)) new
 as_kept flow (MakeCurrency name) old new = (refl, refl, λ t. refl)
 as_kept flow (RemoveCurrency name) old new = (refl, refl, λ t. refl)
 as_kept flow (MakeTicket amount currency) old new = (refl, refl, λ t. refl)
@@ -108,7 +109,8 @@ module _ {W : Type 0} (old new : LinkView W) (book : IsBookLink old) (sound : So
   command_stepped : (none : is_lack reply ≡ false) → Stepped (command_step old.rates old.live c) old reply new
   command_stepped none = elim did [
     | inl found ↦ let lack : is_lack reply ≡ true = ap is_lack found.reply_is in cc
-    | inr stepped ↦ subst (λ b. MatchBool b ((reply ≡ Refused SpentRefusal) × (new ≡ old)) (Stepped (command_step old.rates old.live c) old reply new)) living stepped
+    | inr stepped ↦ subst (λ b. MatchBool b ((reply ≡ Refused SpentRefusal) × (new ≡ old))
+        (Stepped (command_step old.rates old.live c) old reply new)) living stepped
   ]
 
   pub command-made : HasCommandFields c → is_lack reply ≡ false → MakesLine old (Change c) (made_by c reply) new
@@ -138,14 +140,16 @@ module _ {W : Type 0} (old new : LinkView W) (book : IsBookLink old) (sound : So
   command-book = elim did [
     | inl found ↦ book-same old book new found.unchanged
     | inr stepped ↦ book_stepped
-        (subst (λ b. MatchBool b ((reply ≡ Refused SpentRefusal) × (new ≡ old)) (Stepped (command_step old.rates old.live c) old reply new)) living stepped)
+        (subst (λ b. MatchBool b ((reply ≡ Refused SpentRefusal) × (new ≡ old))
+        (Stepped (command_step old.rates old.live c) old reply new)) living stepped)
   ]
 
   pub command-rates : new.rates ≡ old.rates
   command-rates = elim did [
     | inl found ↦ ap (λ (s : LinkView W). s.rates) found.unchanged
     | inr stepped ↦
-        (subst (λ b. MatchBool b ((reply ≡ Refused SpentRefusal) × (new ≡ old)) (Stepped (command_step old.rates old.live c) old reply new)) living stepped).rest.rates
+        (subst (λ b. MatchBool b ((reply ≡ Refused SpentRefusal) × (new ≡ old))
+        (Stepped (command_step old.rates old.live c) old reply new)) living stepped).rest.rates
   ]
 
 -- Packets
@@ -155,7 +159,8 @@ module _ {W : Type 0} (old new : LinkView W) (book : IsBookLink old) (sound : So
     (did : Steps (λ _ l. arrive_step l flow body.payload) old reply new) where
   arrival_stepped : Stepped (arrive_step old.live flow body.payload) old reply new
   arrival_stepped =
-      subst (λ b. MatchBool b ((reply ≡ Refused SpentRefusal) × (new ≡ old)) (Stepped (arrive_step old.live flow body.payload) old reply new)) living did
+      subst (λ b. MatchBool b ((reply ≡ Refused SpentRefusal) × (new ≡ old))
+      (Stepped (arrive_step old.live flow body.payload) old reply new)) living did
 
   arrival_is : event_of old.live (Send flow body) ≡ taken_by flow body reply
   arrival_is =
@@ -250,7 +255,8 @@ module _ {W : Type 0} (answers : W → List ℕ → Answer → W → Type 0)
       → MatchOption (frame_in turn) ((sending old.live ≡ None) × (new ≡ old)) (λ w. WritesFrame old w new)
   frame-written living unbroken did =
       offered_whole (sending old.live) refl
-      (subst (λ b. MatchBool b ((turn ≡ Broken) × (new ≡ old)) (OffersSome answers old 65535 (sending old.live) turn new))
+      (subst (λ b. MatchBool b ((turn ≡ Broken) × (new ≡ old))
+      (OffersSome answers old 65535 (sending old.live) turn new))
       unbroken
       (subst (λ b. MatchBool b ((turn ≡ Spent) × (new ≡ old)) (MatchBool old.live.broken ((turn ≡ Broken) × (new ≡ old))
       (OffersSome answers old 65535 (sending old.live) turn new))) living did))

@@ -23,9 +23,9 @@ use Rattle.share_model.specs.lists.Each.{Each}
 use Rattle.share_model.specs.run.Fold.{State, empty_state, step, state_after, run}
 use Rattle.share_model.specs.text.Lines.{IsName, IsNumber, name_of, number_of, with_rest, words_of}
 use Rattle.share_model.specs.text.Talk.{is_feed}
-use Rattle.share_model.proofs.lemmas.text.AuditLaws.{line-short}
-use Rattle.share_model.proofs.lemmas.text.LinesLaws.{reading-spelling_of}
-use Rattle.share_model.proofs.lemmas.text.WordLaws.{name_of-only, number_of-only}
+use Rattle.share_model.proofs.lemmas.text.AuditLemmas.{line-short}
+use Rattle.share_model.proofs.lemmas.text.LineLemmas.{reading-spelling_of}
+use Rattle.share_model.proofs.lemmas.text.WordLemmas.{name_of-only, number_of-only}
 use Rattle.share_text.specs.Lengths.{length_of, length_by, length_for}
 use Rattle.share_script.specs.Script.{NoFeed}
 use Rattle.share_text.specs.Words.{last}
@@ -305,7 +305,7 @@ not_long line rest left clean few text long =
     omega (arith, n, few, many)
 
 module _ (kind : Kind) (l : Live) (wrong : Wrong) where
-  -- what comes is not wrong if no line comes
+  -- no fault comes if no line comes
   end_right : (left : List ℕ) → NoFeed left → IsWrongNext kind l left wrong → ⊥
   end_right left clean not = elim not [
     | inl long ↦ no_line long.0.long long.0.more left clean (long.0.is ∙ fed_first long.0.long long.0.more)
@@ -362,7 +362,7 @@ pub record AreBothWrong (lines others : List (List ℕ)) (one other : Wrong) : T
   pub wrong_is : one ≡ other
 
 module _ (kind : Kind) (rates : List Rate) (one other : Wrong) where
-  -- what comes is wrong in one way
+  -- a fault comes in one way
   wrong_next : (l : Live) (left : List ℕ) → IsWrongNext kind l left one → IsWrongNext kind l left other → one ≡ other
   wrong_next l left is also = elim is [
     | inl long ↦ elim also [

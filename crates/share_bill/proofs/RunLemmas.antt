@@ -17,7 +17,8 @@ use Rattle.share_base.specs.declared.command.Event.TheVariants.{Commanded, Arriv
 use Rattle.share_base.specs.declared.command.Outcome.{Outcome}
 use Rattle.share_base.specs.declared.command.Outcome.TheVariants.{Replied}
 use Rattle.share_base.specs.declared.command.Reply.{Reply}
-use Rattle.share_base.specs.declared.command.Reply.TheVariants.{Done, Ticket, Flow, Closed, Packet as PacketReply, Refused}
+use Rattle.share_base.specs.declared.command.Reply.TheVariants.{Done, Ticket, Flow, Closed, Packet as PacketReply}
+use Rattle.share_base.specs.declared.command.Reply.TheVariants.{Refused}
 use Rattle.share_base.specs.declared.version.Version.{Version}
 use Rattle.share_base.specs.declared.version.Version.TheVariants.{Two}
 use Rattle.share_model.specs.declared.line.Line.{Line}
@@ -41,13 +42,13 @@ use Rattle.share_model.specs.run.Fold.{State, Sent, TornFrame, empty_state, step
 use Rattle.share_model.specs.run.Fold.{sent_by_event, finished_by, torn_after}
 use Rattle.share_model.specs.run.History.{sent_by, sent_cost, torn_cost, cost_of, bill}
 use Rattle.share_model.specs.run.Sound.{Sound, SoundState, max_life}
-use Rattle.share_model.proofs.lemmas.link.TurnLaws.{written-step}
-use Rattle.share_model.proofs.lemmas.lists.Laws.{is_some-find_number, map-change_first}
-use Rattle.share_model.proofs.lemmas.run.BillLaws.{run-billed}
-use Rattle.share_model.proofs.lemmas.run.BytesLaws.{keeps-commanded, keeps-arrived, frame_of-sending, sent_of}
-use Rattle.share_model.proofs.lemmas.run.FoldLaws.{state-after, state-empty, state_after-last, may_follow-append}
-use Rattle.share_model.proofs.lemmas.run.FoldLaws.{may_follow-one}
-use Rattle.share_model.proofs.lemmas.run.SoundLaws.{rest-short, head-stands, sending-head, sending-tariff}
+use Rattle.share_model.proofs.lemmas.link.TurnLemmas.{written-step}
+use Rattle.share_model.proofs.lemmas.lists.FirstItemLemmas.{is_some-find_number, map-change_first}
+use Rattle.share_model.proofs.lemmas.run.BillLemmas.{run-billed}
+use Rattle.share_model.proofs.lemmas.run.ByteLemmas.{keeps-commanded, keeps-arrived, frame_of-sending, sent_of}
+use Rattle.share_model.proofs.lemmas.run.EventLemmas.{state-after, state-empty, state_after-last, may_follow-append}
+use Rattle.share_model.proofs.lemmas.run.EventLemmas.{may_follow-one}
+use Rattle.share_model.proofs.lemmas.run.SoundLinkLemmas.{rest-short, head-stands, sending-head, sending-tariff}
 use Rattle.share_bill.specs.declared.bill.kind.Kind.{Kind}
 use Rattle.share_bill.specs.declared.bill.line.Wrong.TheVariants.{Spent as SpentLine, Sent as SentLine}
 use Rattle.share_bill.specs.declared.bill.making.Made.{Made}
@@ -116,7 +117,7 @@ sent_more flow done d b test =
 sum_last : (f : Sent → ℕ) (ds : List Sent) (d : Sent) → sum_by f (ds ++ d ∷ []) ≡ sum_by f ds + f d
 sum_last f ds d = sum_by-append f ds (d ∷ []) ∙ ap (λ n. sum_by f ds + n) (zero-add (f d))
 
--- one more frame of this flow, of so many bytes and units, and the cost of all
+-- one more frame of this flow, of that many bytes and units, and the cost of all
 sums_own : (rates : List Rate) (version : Version) (done : List Sent) (torn : Option TornFrame) (d : Sent)
     (bytes units amount : ℕ) → bytes_in version d ≡ bytes → units_in rates version d ≡ units
     → cost_of version rates (nat_eq d.head.flow) (done ++ d ∷ []) torn ≡ amount
@@ -126,7 +127,8 @@ sums_own rates version done torn d bytes units amount bytes_are units_are costs 
     let flow = d.head.flow in
     let ds = sent_by flow done in
     let more : sent_by flow (done ++ d ∷ []) ≡ ds ++ d ∷ [] = sent_more flow done d true (eq-eqb flow flow refl) in
-    ap (λ a. four_sums (length (sent_by flow (done ++ d ∷ []))) (sum_by (bytes_in version) (sent_by flow (done ++ d ∷ [])))
+    ap (λ a. four_sums (length (sent_by flow (done ++ d ∷ [])))
+    (sum_by (bytes_in version) (sent_by flow (done ++ d ∷ [])))
     (sum_by (units_in rates version) (sent_by flow (done ++ d ∷ []))) a) costs
     ∙ same_sums (length (sent_by flow (done ++ d ∷ []))) (sum_by (bytes_in version) (sent_by flow (done ++ d ∷ [])))
     (sum_by (units_in rates version) (sent_by flow (done ++ d ∷ []))) (length ds + 1)
@@ -210,7 +212,8 @@ whole_live life rates l s sound sends =
 part_after : (life : ℕ) (rates : List Rate) (l : Live) (line : Line) (e : Event) → Sound life rates l
     → l.part ≡ None → event_of l line ≡ Ok e → (live_step rates l e).0.part ≡ None
 part_after life rates l (Change c) e sound none is =
-    let same : e ≡ Commanded c = let found = found_in (life_is_spent max_life l) SpentLine (Ok (Commanded c)) e is in cc in
+    let same : e ≡ Commanded c = let found =
+    found_in (life_is_spent max_life l) SpentLine (Ok (Commanded c)) e is in cc in
     ap (λ (f : Event). (live_step rates l f).0.part) same ∙ ((keeps-commanded sound c).part ∙ none)
 part_after life rates l (Send flow body) e sound none is =
     let same : e ≡ Arrived flow body =
@@ -377,11 +380,13 @@ module _ {W : Type 0} (rates : List Rate) (range : AreInRange rates) (lines : Li
 
     amount_is : cost_of s.live.version rates (nat_eq frame.head.flow) (s.done ++ sent_of frame ∷ []) s.torn ≡ amount
     amount_is =
-        let account : account_of (step rates s e).live.books frame.head.flow ≡ bill rates (step rates s e) frame.head.flow =
+        let account : account_of (step rates s e).live.books frame.head.flow
+        ≡ bill rates (step rates s e) frame.head.flow =
         account_booked (find (is_book_of frame.head.flow) (step rates s e).live.books)
         (bill rates (step rates s e) frame.head.flow) (booked (step rates s e).live.books books_same)
         (λ b found. run-billed_last frame.head.flow b found) in
-        sym (ap (λ (v : Version). cost_of v rates (nat_eq frame.head.flow) (s.done ++ sent_of frame ∷ []) s.torn) version_same)
+        sym (ap (λ (v : Version). cost_of v rates (nat_eq frame.head.flow) (s.done ++ sent_of frame ∷ []) s.torn)
+        version_same)
         ∙ (sym (ap (λ (t : Option TornFrame). cost_of (step rates s e).live.version rates (nat_eq frame.head.flow)
         (s.done ++ sent_of frame ∷ []) t) torn_same)
         ∙ (sym (ap (λ (ds : List Sent). cost_of (step rates s e).live.version rates (nat_eq frame.head.flow) ds
@@ -400,7 +405,8 @@ module _ {W : Type 0} (rates : List Rate) (range : AreInRange rates) (lines : Li
     sums_now : (other : ℕ) → sums_of rates (step rates s e) other
         ≡ sums_in rates s.live.version s.torn other (sent_by other (s.done ++ sent_of frame ∷ []))
     sums_now other =
-        ap (λ (v : Version). sums_in rates v (step rates s e).torn other (sent_by other (step rates s e).done)) version_same
+        ap (λ (v : Version). sums_in rates v (step rates s e).torn other (sent_by other (step rates s e).done))
+        version_same
         ∙ (ap (λ (t : Option TornFrame). sums_in rates s.live.version t other (sent_by other (step rates s e).done))
         torn_same
         ∙ ap (λ (ds : List Sent). sums_in rates s.live.version s.torn other (sent_by other ds)) done_more)

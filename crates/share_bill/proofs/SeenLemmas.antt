@@ -41,14 +41,14 @@ use Rattle.share_model.specs.run.Fold.{State, Sent, TornFrame, finished_by, sent
 use Rattle.share_model.specs.run.Fold.{outcome, state_after, outcomes, empty_state, run}
 use Rattle.share_model.specs.declared.link.Totals.{Totals}
 use Rattle.share_model.specs.link.Totals.{packets_in, torn_packets, torn_count, state_by, totals}
-use Rattle.share_model.proofs.lemmas.link.FrameLaws.{length-frame}
-use Rattle.share_model.proofs.lemmas.link.PayloadLaws.{buffer_of-image, count_in-image, is_full-image, is_busy-image}
-use Rattle.share_model.proofs.lemmas.link.PayloadLaws.{head_of-image, open_in-image, close_in-image, push_in-image}
-use Rattle.share_model.proofs.lemmas.link.PayloadLaws.{pop_in-image}
+use Rattle.share_model.proofs.lemmas.link.FrameLemmas.{length-frame}
+use Rattle.share_model.proofs.lemmas.link.PayloadLemmas.{buffer_of-image, count_in-image, is_full-image, is_busy-image}
+use Rattle.share_model.proofs.lemmas.link.PayloadLemmas.{head_of-image, open_in-image, close_in-image, push_in-image}
+use Rattle.share_model.proofs.lemmas.link.PayloadLemmas.{pop_in-image}
 use Rattle.share_bill.specs.Seen.{KeepsLengths, seen_link, seen_sent, seen_torn, seen_state, seen_event}
 use Rattle.share_bill.specs.Seen.{zeros_for, measured}
 
--- what is left of a link, seen so, and an answer
+-- the rest of a link, seen so, and an answer
 abbrev pub seen_first : {A : Type 0} → (List ℕ → List ℕ) → Live × A → Live × A
 seen_first f d = (seen_link f d.0, d.1)
 
@@ -92,7 +92,7 @@ module _ (f : List ℕ → List ℕ) where
   opened-seen l name limit tariff =
       ap (opened_with l name tariff) (open_in-image f l.buffers l.graph.next_flow limit)
 
-  -- a flow is closed that had so many packets, and these are the buffers then
+  -- a flow is closed that had that many packets, and these are the buffers then
   closed_with : Live → ℕ → ℕ → List Buffer → Live × Reply
   closed_with l n count buffers =
       let waiting = count - (if is_torn_of n l.torn then 1 else 0) in (
@@ -119,7 +119,7 @@ module _ (f : List ℕ → List ℕ) where
       ap (λ count. closed_with l n count (close_in (map (map_buffer f) l.buffers) n)) (count_in-image f l.buffers n)
       ∙ ap (closed_with l n (count_in l.buffers n)) (close_in-image f l.buffers n)
 
-  -- a flow, busy or not, is held or no longer
+  -- a flow, busy or not, is held, or its hold ends
   held_with : Live → ℕ → Bool → Bool → Live × Reply
   held_with l n held busy = (
     with_level_queue (record (with_one_event l) {
@@ -254,7 +254,7 @@ module _ (f : List ℕ → List ℕ) (keeps : KeepsLengths f) where
       length-frame version tariff (map_packet f h)
       ∙ (ap (λ n. header_length version + n) (keeps h.payload) ∙ sym (length-frame version tariff h))
 
-  -- a frame of so many bytes is whole; its flow is busy or not, and these are the buffers then
+  -- a frame of that many bytes is whole; its flow is busy or not, and these are the buffers then
   whole_with : List Rate → Live → Sending → ℕ → ℕ → Bool → List Buffer → Live
   whole_with rates l s k count busy buffers =
       let units = units_due rates l.books s.head.flow count in
@@ -415,7 +415,7 @@ packets_in-seen f (b ∷ bs) =
     ∙ (ap (λ n. length b.packets + n) (packets_in-seen f bs)
     ∙ sym (sum_by-cons (λ (b : Buffer). length b.packets) b bs)))
 
--- the totals of a link with so many packets in its buffers
+-- the totals of a link with that many packets in its buffers
 totals_with : Live → ℕ → Totals
 totals_with l count = record {
   clock = l.queue.clock;

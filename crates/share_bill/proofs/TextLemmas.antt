@@ -27,8 +27,8 @@ use Rattle.share_model.specs.link.Tariff.{AreInRange}
 use Rattle.share_model.specs.run.Events.{MayFollow}
 use Rattle.share_model.specs.run.Fold.{State, empty_state, step, state_after}
 use Rattle.share_model.specs.run.Sound.{max_life}
-use Rattle.share_model.proofs.lemmas.lists.Laws.{each-append}
-use Rattle.share_model.proofs.lemmas.run.FoldLaws.{events-after}
+use Rattle.share_model.proofs.lemmas.lists.FirstItemLemmas.{each-append}
+use Rattle.share_model.proofs.lemmas.run.EventLemmas.{events-after}
 use Rattle.share_bill.specs.declared.bill.kind.Kind.{Kind}
 use Rattle.share_bill.specs.declared.bill.kind.Kind.TheVariants.{Whole, Lengths}
 use Rattle.share_bill.specs.declared.bill.line.Wrong.{Wrong}
@@ -68,7 +68,7 @@ no_feed_at xs i clean inside is =
 
 -- ---- Bytes that are ahead
 
--- of a long beginning no line of at most 20480 bytes ends
+-- no line of at most 20480 bytes ends in a long beginning
 long_line : (front rest line more : List ℕ) → NoFeed front → 20481 ≤ length front → length line ≤ 20480
     → take 20481 front ++ rest ≡ line ++ 10 ∷ more → ⊥
 long_line front rest line more clean many few same =
@@ -149,7 +149,7 @@ ahead_long ahead kept long rest is first many = elim is [
 short_or_long : (n : ℕ) → (n ≤ 20481) ⊎ (20481 < n)
 short_or_long n = elim (leb_tells n 20481) [ inl p ↦ inl p.1 | inr p ↦ inr p.1 ]
 
--- what is left of bytes without a line feed
+-- the rest of bytes without a line feed
 ahead_clean : (ahead kept : List ℕ) → IsAhead ahead kept → NoFeed kept → NoFeed ahead
 ahead_clean ahead kept is clean = elim is [
   | inl same ↦ subst NoFeed same clean
@@ -339,7 +339,7 @@ module _ {R : Type 0} (left : R → Option (List ℕ)) (gives : R → List ℕ �
     pub read-failed : Came left gives old Failed new → InputFails gives first
     read-failed did = read_failed at.count old.reader did.call.buffer new.reader at.reads did.call.called
 
-  -- What comes next of a text
+  -- The next line of a text
 
   pub at-text : (c : Connection R) (P : List ℕ → Type 0) → IsAt left gives first passed c
       → ((rest : List ℕ) → P (passed ++ rest)) → IfSome (left first) P

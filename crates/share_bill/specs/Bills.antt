@@ -1,4 +1,4 @@
--- What a book's lines come to: the events of its run, and what each tenant sent in it.
+-- The result of a book's lines: the events of its run, and what each tenant sent in it.
 use Rattle.std.specs.Prelude.{◌≡◌, ℕ, List, [], ◌∷◌, ◌++◌, codes, length, map, sum_by, Ok}
 use Rattle.std.specs.Prelude.{if◌then◌else◌}
 use Rattle.std.specs.Str.{bytes_eq}
@@ -33,7 +33,7 @@ AreEvents kind rates s (line ∷ lines) [] = ⊥
 AreEvents kind rates s (line ∷ lines) (e ∷ es) =
     (next_event kind s.live line ≡ Ok e) × AreEvents kind rates (step rates s e) lines es
 
--- What each tenant sent
+-- The traffic of each tenant
 
 -- a flow that is opened is a tenant's, unless it fills a gap of the flow numbers
 abbrev pub tenant_flow : List ℕ → ℕ → List TenantFlow
@@ -83,7 +83,7 @@ frame_bytes s d = length (sent_frame s.live.version d)
 abbrev pub frame_units : List Rate → State → Sent → ℕ
 frame_units rates s d = units_of (rate_of rates d.tariff) (frame_bytes s d)
 
--- of a flow: how many frames it sent, their bytes, their units, and what these cost
+-- the sums of a flow: how many frames it sent, their bytes, their units, and the cost of these
 abbrev pub sums_of : List Rate → State → ℕ → Sums
 sums_of rates s flow = record {
   packets = length (sent_by flow s.done);

@@ -37,9 +37,9 @@ kind_of line =
     else if bytes_eq line (codes "lengths 2") then Some Lengths
     else None
 
--- What a line is read as
+-- The reading of a line
 
--- the bytes behind `send `
+-- the bytes after `send `
 abbrev pub after_send : List ℕ → Option (List ℕ)
 after_send bs = if nat_le 5 (length bs) && bytes_eq (take 5 bs) (codes "send ") then Some (drop 5 bs) else None
 
@@ -62,7 +62,7 @@ abbrev pub book_reading : Kind → List ℕ → Result Line Refusal
 book_reading Whole bs = reading Two bs
 book_reading Lengths bs = measured_by bs (after_send bs)
 
--- what was read, unless memory was refused
+-- the reading, unless memory was refused
 abbrev pub ReadsOrLacks : Result Line Refusal → Result Line Refusal → Type 0
 ReadsOrLacks wanted found = (found ≡ wanted) ⊎ (found ≡ Err NoMemory)
 
@@ -94,7 +94,7 @@ written_by count (Some s) = if length (rest_of s) == count then Ok (Written coun
 abbrev pub unless_spent : Live → Result Event Wrong → Result Event Wrong
 unless_spent l found = if life_is_spent max_life l then Err Spent else found
 
--- a command, whatever it is answered; a packet that is taken; a turn that writes a whole frame of so many bytes
+-- a command, whatever it is answered; a packet that is taken; a turn that writes a whole frame of that many bytes
 abbrev pub event_of : Live → Line → Result Event Wrong
 event_of l (Change c) = unless_spent l (Ok (Commanded c))
 event_of l (Send flow body) = unless_spent l (taken_by flow body (arrive_step l flow body.payload).1)

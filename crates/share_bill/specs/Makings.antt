@@ -1,5 +1,6 @@
--- What a line makes on the link of a bill.
-use Rattle.std.specs.Prelude.{◌≡◌, ◌<◌, ◌≤◌, ◌+◌, ◌^◌, ℕ, Bool, true, false, List, [], ◌++◌, length, nat_eq, Option, None, Some}
+-- The effect of a line on the link of a bill.
+use Rattle.std.specs.Prelude.{◌≡◌, ◌<◌, ◌≤◌, ◌+◌, ◌^◌, ℕ, Bool, true, false, List, [], ◌++◌, length, nat_eq, Option}
+use Rattle.std.specs.Prelude.{None, Some}
 use Rattle.std.specs.Prelude.{if◌then◌else◌}
 use Rattle.std.specs.Prelude.{Result, Ok, Err, MatchResult, ⊤}
 use Rattle.share_base.specs.declared.refusal.Refusal.{Refusal}
@@ -55,7 +56,7 @@ pub record Makes {W : Type 0} (old : LinkView W) (e : Event) (o : Outcome) (new 
   pub life : new.life ≡ old.life
   pub rates : new.rates ≡ old.rates
 
--- What is kept of an event
+-- The part of an event that a bill keeps
 
 -- a whole frame of a flow was sent: what it was charged, and what all that the flow sent costs
 pub record IsSentFrame (old : Live) (flow bytes units amount : ℕ) (e : Event) (new : Live) : Type 0 where
@@ -91,7 +92,7 @@ abbrev pub MakesOrNot : {W : Type 0} → LinkView W → Line → Result Made Lin
 MakesOrNot old line result new =
     MatchResult result (λ made. MakesLine old line made new) (λ fault. IsFault (event_of old.live line) fault)
 
--- What a bill keeps: the flows of tenants, and what each flow sent
+-- The parts of a bill: the flows of tenants, and what each flow sent
 
 abbrev pub KeepsMade : Made → List TenantFlow → List Sums → List TenantFlow → List Sums → Type 0
 KeepsMade (Opened name flow) tenants sent now_tenants now_sent =

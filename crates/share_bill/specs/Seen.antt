@@ -38,6 +38,6 @@ seen_event f Faulted = Faulted
 abbrev pub zeros_for : List ℕ → List ℕ
 zeros_for payload = replicate (length payload) 0
 
--- of two lists of events that differ in payloads alone, of equal lengths, this is the same
+-- this is the same for two lists of events that differ in payloads alone, of equal lengths
 abbrev pub measured : List Event → List Event
 measured events = map (seen_event zeros_for) events

@@ -1,4 +1,4 @@
--- What each flow sent, by its number.
+-- The traffic of each flow, by its number.
 use Rattle.std.specs.Prelude.{◌≤◌, ◌+◌, ◌*◌, ◌^◌, ℕ, List, get_or}
 use Rattle.share_bill.specs.declared.bill.sums.Sums.{Sums}
 use Rattle.share_model.specs.lists.Each.{Each}
@@ -6,7 +6,7 @@ use Rattle.share_model.specs.lists.Each.{Each}
 abbrev pub nothing_sent : Sums
 nothing_sent = record { packets = 0; bytes = 0; units = 0; amount = 0 }
 
--- what a flow sent: nothing behind the end of the list
+-- the traffic of a flow: nothing after the end of the list
 abbrev pub sums_at : List Sums → ℕ → Sums
 sums_at es flow = get_or es flow nothing_sent
 

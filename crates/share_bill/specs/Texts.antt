@@ -21,7 +21,8 @@ use Rattle.share_bill.specs.declared.bill.line.Wrong.TheVariants.{First, Long}
 use Rattle.share_bill.specs.declared.bill.running.TenantBill.{TenantBill}
 use Rattle.share_bill.specs.declared.bill.text.BookBill.{BookBill}
 use Rattle.share_bill.specs.declared.bill.text.Next.{Next}
-use Rattle.share_bill.specs.declared.bill.text.Next.TheVariants.{Line as NextLine, Long as NextLong, End as NextEnd, Failed as NextFailed}
+use Rattle.share_bill.specs.declared.bill.text.Next.TheVariants.{Line as NextLine, Long as NextLong, End as NextEnd}
+use Rattle.share_bill.specs.declared.bill.text.Next.TheVariants.{Failed as NextFailed}
 use Rattle.share_bill.specs.declared.bill.text.NotBilled.{NotBilled}
 use Rattle.share_bill.specs.declared.bill.text.NotBilled.TheVariants.{Input, NoMemory, Line as LineFault}
 use Rattle.share_bill.specs.Bills.{AreEvents, rows_of}
@@ -58,14 +59,16 @@ pub record BeginsAsBook (rates : List Rate) (bytes : List ℕ) (kind : Kind) : T
   pub may : MayRun Two max_life rates events
 
 -- it is a book, whose rest has no line feed and is left out; the rows are those of the run
-pub record IsBook (rates : List Rate) (bytes : List ℕ) (kind : Kind) (rows : List TenantBill) (cut : Option ℕ) : Type 0 where
+pub record IsBook (rates : List Rate) (bytes : List ℕ) (kind : Kind) (rows : List TenantBill)
+    (cut : Option ℕ) : Type 0 where
   pub book : BeginsAsBook rates bytes kind
   pub clean : NoFeed book.rest
   pub rows_are : rows ≡ rows_of rates book.events
   pub cut_is : cut ≡ cut_of (next_number book.lines) book.rest
 
 -- it is a book, whose rest has no line feed and is left out; the bill is that of its run
-pub record IsRunText {W : Type 0} (rates : List Rate) (bytes : List ℕ) (bill : BillView W) (cut : Option ℕ) : Type 0 where
+pub record IsRunText {W : Type 0} (rates : List Rate) (bytes : List ℕ) (bill : BillView W)
+    (cut : Option ℕ) : Type 0 where
   pub lines : List (List ℕ)
   pub events : List Event
   pub rest : List ℕ
@@ -102,7 +105,7 @@ pub data IsNoFirst (rest : List ℕ) : Type 0 where
 abbrev pub IsFirstWrong : List ℕ → ℕ → Wrong → Type 0
 IsFirstWrong bytes number wrong = IsNoFirst bytes × (number ≡ 1) × (wrong ≡ First)
 
--- what is wrong with what comes next, by the link of the lines so far
+-- the fault of the next line, by the link of the lines so far
 abbrev pub IsWrongNext : Kind → Live → List ℕ → Wrong → Type 0
 IsWrongNext kind l rest wrong = (IsLongNext rest × (wrong ≡ Long))
     ⊎ ((line : List ℕ) × IsNext rest line × (next_event kind l line ≡ Err wrong))
@@ -173,7 +176,7 @@ module _ {R : Type 0} (left : R → Option (List ℕ)) (gives : R → List ℕ �
   IsFirstFault NoMemory = ⊥
   IsFirstFault (LineFault number wrong) = IfSome (left first) (λ bytes. IsFirstWrong bytes number wrong)
 
-  -- why the text has no bill. Of memory that was refused nothing is said
+  -- why the text has no bill. Nothing is said of memory that was refused
   abbrev pub IsTextFault : List Rate → NotBilled → Type 0
   IsTextFault rates Input = InputFails gives first
   IsTextFault rates NoMemory = ⊤
@@ -187,7 +190,8 @@ module _ {R : Type 0} (left : R → Option (List ℕ)) (gives : R → List ℕ �
       (λ fault. IsTextFault rates fault)
 
   -- lines were taken that are a run
-  pub record TakesLines {W : Type 0} (rates : List Rate) (bill : BillView W) (c : Connection R) (number : ℕ) : Type 0 where
+  pub record TakesLines {W : Type 0} (rates : List Rate) (bill : BillView W) (c : Connection R)
+      (number : ℕ) : Type 0 where
     pub lines : List (List ℕ)
     pub events : List Event
     pub bill_is : IsBillOf rates lines events bill
@@ -196,7 +200,8 @@ module _ {R : Type 0} (left : R → Option (List ℕ)) (gives : R → List ℕ �
     pub at : IsAt (text_of bill.kind lines) c
 
   -- and no more came
-  pub record TakesAll {W : Type 0} (rates : List Rate) (bill : BillView W) (c : Connection R) (number : ℕ) : Type 0 where
+  pub record TakesAll {W : Type 0} (rates : List Rate) (bill : BillView W) (c : Connection R)
+      (number : ℕ) : Type 0 where
     pub lines : List (List ℕ)
     pub events : List Event
     pub bill_is : IsBillOf rates lines events bill

@@ -1,4 +1,4 @@
--- What tenants sent by several books together.
+-- The traffic of tenants in several books together.
 use Rattle.std.specs.Prelude.{ℕ, ◌+◌, ◌-◌, ◌^◌, Bool, true, false, not, List, [], ◌∷◌, ◌++◌, filter, min, if◌then◌else◌}
 use Rattle.std.specs.List.{position_or_len}
 use Rattle.std.specs.Str.{bytes_eq}
@@ -49,7 +49,7 @@ abbrev pub has_name : List ℕ → List (List ℕ) → Bool
 has_name name [] = false
 has_name name (n ∷ ns) = if bytes_eq n name then true else has_name name ns
 
--- a name comes behind the others, if it is not one of them
+-- a name comes after the others, if it is not one of them
 abbrev pub with_name : List (List ℕ) → List ℕ → List (List ℕ)
 with_name names name = if has_name name names then names else names ++ name ∷ []
 
@@ -59,7 +59,7 @@ index_of totals name = position_or_len (λ (t : TenantTotal). bytes_eq t.name na
 
 -- Sums
 
--- what the tenant of this name sent: nothing if it has no entry
+-- the traffic of the tenant of this name: nothing if it has no entry
 abbrev pub figures_of : List TenantTotal → List ℕ → Figures
 figures_of [] name = no_figures
 figures_of (t ∷ ts) name = if bytes_eq t.name name then t.sent else figures_of ts name

@@ -1,4 +1,4 @@
-//! What holds of every run. Each function here does nothing. Its contract is a law, and is proved.
+//! Laws of every run. Each function here does nothing. Its contract is a law, and is proved.
 ghost use Rattle.std.specs.Prelude.{◌≡◌, ◌∷◌, ◌++◌, [], ℕ, List, map, Option};
 ghost use Rattle.share_base.specs.declared.command.Event.{Event};
 ghost use Rattle.share_base.specs.declared.version.Version.{Version};
@@ -18,9 +18,9 @@ ghost use Rattle.share_bill.specs.Seen.{measured};
 ghost use Rattle.share_bill.specs.Sums.{sums_at};
 ghost use Rattle.share_bill.specs.Texts.{IsBook, IsWrongText};
 
-/// Two lists of events that differ in the payloads of packets alone, of equal lengths, are answered the same, and come
-/// to the same accounts, clients and totals, the number of bytes that were written among these. Their bills have the
-/// same rows.
+/// Two lists of events that differ in the payloads of packets alone, of equal lengths, are answered the same. They come
+/// to the same accounts, clients and totals, including the number of bytes that were written. Their bills have the same
+/// rows.
 pub fn lengths_decide()
     ensures replies { (version : Version) (rates : List Rate) (one other : List Event) → measured one ≡ measured other
         → outcomes rates (empty_state version) one ≡ outcomes rates (empty_state version) other }
@@ -36,9 +36,9 @@ pub fn lengths_decide()
 {}
 
 /// Take the lines of a book, each of which is the next event of a run. The run's bill has a row for each flow that was
-/// opened for a tenant, with the sums over the packets that the flow sent in the whole run: their number, their bytes,
-/// their units, and what these cost, which is the account of the flow. A bill of no line is one of these, and a bill
-/// that takes one more line is one again.
+/// opened for a tenant. The row has sums over the packets that the flow sent in the whole run: their number, their
+/// bytes, their units, and the cost of these, which is the account of the flow. A bill of no line is one of these, and
+/// a bill that takes one more line is one again.
 pub fn bills_are_sums()
     ensures first { (rates : List Rate) (new : BillView Discard) → IsBookLink new.link → new.link.rates ≡ rates
         → new.link.live ≡ empty_link Version.Two → new.tenants ≡ [] → new.sent ≡ [] → IsBillOf rates [] [] new }
@@ -52,8 +52,8 @@ pub fn bills_are_sums()
 {}
 
 /// A text has one bill, or one wrong line. If two bills are bills of it, they are of the same kind and have the same
-/// rows, and the same line is cut (`one`); and they are bills of the same events (`run`). A text that has a bill has no
-/// wrong line (`right`), and of a text without one one line is the first that is wrong, in one way (`wrong`).
+/// rows, and the same line is cut (`one`). They are bills of the same events (`run`). A text that has a bill has no
+/// wrong line (`right`). In a text without one, one line is the first that is wrong, in one way (`wrong`).
 pub fn texts_have_one_bill()
     ensures one { (rates : List Rate) (bytes : List ℕ) (kind other : Kind) (rows others : List TenantBill)
         (cut left : Option ℕ) → IsBook rates bytes kind rows cut → IsBook rates bytes other others left

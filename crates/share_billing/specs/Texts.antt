@@ -6,7 +6,7 @@ use Rattle.share_bill.specs.Totals.{no_figures, plus}
 use Rattle.share_billing.specs.declared.printing.Form.{Form}
 use Rattle.share_billing.specs.declared.printing.Form.TheVariants.{Table, Csv, Json}
 
--- the decimal of a number behind some bytes
+-- the decimal of a number after some bytes
 abbrev pub field : List ℕ → ℕ → List ℕ
 field before number = before ++ decimal number
 
@@ -52,7 +52,7 @@ json_text books ts = field (codes "{\"books\":") books ++ codes ",\"tenants\":["
 abbrev pub left : ℕ → List ℕ → List ℕ
 left width text = text ++ replicate (width - length text) 32
 
--- behind a space
+-- after a space
 abbrev pub right : ℕ → List ℕ → List ℕ
 right width text = codes " " ++ replicate (width - length text) 32 ++ text
 

@@ -32,7 +32,7 @@ impl<'a> Display for Shown<'a> {
     }
 }
 
-/// What standard error says of a book that has no bill: the file, the line if there is one, and the reason.
+/// The line on standard error for a book that has no bill: the file, the line if there is one, and the reason.
 #[derive(Clone, Copy, Debug)]
 pub(crate) struct FaultLine<'a> {
     pub(crate) path: &'a str,
@@ -53,7 +53,7 @@ impl<'a> Display for FaultLine<'a> {
     }
 }
 
-/// What standard error says of a book that ends in a line without its line feed.
+/// The line on standard error for a book that ends in a line without its line feed.
 #[derive(Clone, Copy, Debug)]
 pub(crate) struct CutLine<'a> {
     pub(crate) path: &'a str,

@@ -24,7 +24,7 @@ const WIDEST: usize = 20;
 /// Spaces that fill it.
 const SPACES: [u8; WIDEST] = [b' '; WIDEST];
 
-// Adds the decimal of a number behind some bytes.
+// Adds the decimal of a number after some bytes.
 fn push_field(text: &mut Vec<u8>, before: &[u8], number: u128) -> Result<(), AllocError>
     ensures { OnOk result (text.new.items ≡ text.old.items ++ field before.now number) }
 {
@@ -34,7 +34,7 @@ fn push_field(text: &mut Vec<u8>, before: &[u8], number: u128) -> Result<(), All
     Ok(())
 }
 
-// Adds the decimal of a number at the right of a column, behind a space. A longer one is shown whole.
+// Adds the decimal of a number at the right of a column, after a space. A longer one is shown whole.
 fn push_right(text: &mut Vec<u8>, width: usize, number: u128) -> Result<(), AllocError>
     requires { width ≤ 20 }
     ensures { OnOk result (text.new.items ≡ text.old.items ++ right width (decimal number)) }
@@ -104,7 +104,7 @@ fn push_json_row(text: &mut Vec<u8>, name: &[u8], sent: &Figures) -> Result<(), 
     Ok(())
 }
 
-// What all tenants sent.
+// The traffic of all tenants.
 fn sum_of(tenants: &[TenantTotal]) -> Figures
     ensures { result ≡ sum_of tenants.now }
 {

@@ -1,4 +1,4 @@
--- What an amend comes to.
+-- The outcome of an amend.
 use Rattle.std.specs.Prelude.{◌≡◌, ◌-◌, ℕ, true, false, Ok, Err}
 use Rattle.share_base.specs.declared.command.Command.TheVariants.{Amend}
 use Rattle.share_base.specs.declared.command.Reply.{Reply}

@@ -29,7 +29,7 @@ use Rattle.share_model.specs.link.Calls.{is_spent}
 use Rattle.share_model.specs.link.Live.{Live}
 use Rattle.share_model.specs.link.Turns.{Sending, frame_of, is_whole, whole, sending, wrote_turn}
 use Rattle.share_model.specs.link.Step.{live_step}
-use Rattle.share_model.proofs.lemmas.link.TurnLaws.{written-step}
+use Rattle.share_model.proofs.lemmas.link.TurnLemmas.{written-step}
 use Rattle.share_gateway.specs.Opened.{first_refused, opened_link}
 use Rattle.share_gateway.specs.Outbox.{OutboxView}
 use Rattle.share_gateway.specs.Plan.{PlanView, TenantView, IsInLimits, ascends, flows_of}
@@ -126,7 +126,8 @@ whole_step rates l s unparted is =
     let all : is_whole s (length (frame_of s)) ≡ true = grind (arith, nat_tests, new) in
     ap (λ (d : Live × Outcome). d.0) (written-step rates l (length (frame_of s)) s is)
     ∙ ap (λ (d : Live × Turn). d.0)
-    (cond-true (is_whole s (length (frame_of s))) (whole rates l s (length (frame_of s)), wrote_turn s (length (frame_of s)) true)
+    (cond-true (is_whole s (length (frame_of s)))
+    (whole rates l s (length (frame_of s)), wrote_turn s (length (frame_of s)) true)
     _ all)
 
 -- ---- One book
@@ -144,7 +145,8 @@ order_took name taken written b tenant payload seq new was did =
     let l : Live = b.audited.link.live in
     let more : List (List ℕ) = payload_if (bytes_eq name tenant) payload in
     let is : new.link.live ≡ accept l (named_number l tenant) payload =
-    ap (λ (a : Audited). a.link.live) came.event ∙ ap (λ (d : Live × Reply). d.0) (accept-is l tenant payload came.room) in
+    ap (λ (a : Audited). a.link.live) came.event
+    ∙ ap (λ (d : Live × Reply). d.0) (accept-is l tenant payload came.room) in
     record {
       laid = subst (IsLaidOut b.plan) (sym is) (laid-accept b.plan l was.laid tenant payload came.room);
       order =
@@ -157,7 +159,8 @@ order_took name taken written b tenant payload seq new was did =
 order_sent : (name : NameBytes) (taken written : List (List ℕ)) (b : BookView) (before : OutboxView)
     (flow seq count : ℕ) (new : Audited) (after : OutboxView) → IsInOrder name taken written b
     → Turns b.audited before (Wrote flow seq count) new after
-    → IsInOrder name taken (written ++ next_payload b.plan name (sending b.audited.link.live)) (record b { audited = new })
+    → IsInOrder name taken (written ++ next_payload b.plan name (sending b.audited.link.live))
+    (record b { audited = new })
 order_sent name taken written b before flow seq count new after was did =
     let wrote = wrote_is b.audited before flow seq count new after did in
     let l : Live = b.audited.link.live in
@@ -201,7 +204,8 @@ module _ (name : NameBytes) (taken written : List (List ℕ)) (b : BookView) (re
       → IsChange b c plan reply new → IsInOrder name taken written new
   order_change c plan control keeps did =
       subst (λ (p : PlanView). IsInOrder name taken written (record { audited = new.audited; plan = p })) (sym did.plan)
-      (subst (λ (a : Audited). IsInOrder name taken written (record { audited = a; plan = plan_after reply b.plan plan }))
+      (subst (λ (a : Audited). IsInOrder name taken written
+      (record { audited = a; plan = plan_after reply b.plan plan }))
       (sym did.audited)
       (order_planned name taken written b plan (after_event b.audited (Commanded c)) keeps was
       (stays-control b.plan b.audited.link.live was.laid b.audited.link.rates c control) (is_done reply)))
@@ -275,7 +279,8 @@ done_by true true left dropped is = cc
 done_by true false left dropped is = cc
 done_by false spent left dropped is = refl
 
-module _ (p q : PlanView) (rising : ascends 0 (flows_of q.tenants) ≡ true) (name : NameBytes) (all : List (List ℕ)) where
+module _ (p q : PlanView) (rising : ascends 0 (flows_of q.tenants) ≡ true) (name : NameBytes)
+    (all : List (List ℕ)) where
   between_drained : (old : Audited) (n : ℕ) (before : ClosedView) → IsBetween p q name all old.link.live before
       → IsBetween p q name all (drained_by old n).link.live before
   between_drained old n before was = record {
@@ -421,4 +426,5 @@ module _ (planned : (rates : List Rate) (p : PlanView) → IsInLimits p → firs
       → CarriesAll b.audited p.tenants (closed_of old) new after
       → IsCut name (tenant_limit p name) old (record b { audited = new }) after
   books-cut name taken written old rates p events kind b new after history limits begun did =
-      carried-cut rates p events kind b limits begun name old (in_order name taken written old history).laid new after did
+      carried-cut rates p events kind b limits begun name old (in_order name taken written old history).laid new after
+      did

@@ -1,5 +1,6 @@
--- What carrying does to the packets of one tenant: the first ones go to the new book, in order, and the others stay.
-use Rattle.std.specs.Prelude.{◌≡◌, ◌⊎◌, ◌<◌, ◌≤◌, ◌+◌, ◌-◌, ℕ, zero, suc, Bool, true, false, List, [], ◌∷◌, ◌++◌, length}
+-- Carrying and the packets of one tenant: the first ones go to the new book, in order, and the others stay.
+use Rattle.std.specs.Prelude.{◌≡◌, ◌⊎◌, ◌<◌, ◌≤◌, ◌+◌, ◌-◌, ℕ, zero, suc, Bool, true, false, List, [], ◌∷◌, ◌++◌}
+use Rattle.std.specs.Prelude.{length}
 use Rattle.std.specs.Prelude.{map, take, drop, min, find, nat_eq, nat_le, nat_lt, bytes_eq, Option, None, Some}
 use Rattle.std.specs.Prelude.{if◌then◌else◌}
 use Rattle.std.specs.List.{fold}
@@ -14,7 +15,7 @@ use Rattle.share_model.specs.funding.Graph.{NameBytes}
 use Rattle.share_model.specs.link.Arrivals.{accept}
 use Rattle.share_model.specs.link.Buffers.{Buffer, buffer_of, pop_in}
 use Rattle.share_model.specs.link.Live.{Live}
-use Rattle.share_model.proofs.lemmas.lists.SumLaws.{same_name}
+use Rattle.share_model.proofs.lemmas.lists.SumLemmas.{same_name}
 use Rattle.share_base.specs.declared.command.Reply.{Reply}
 use Rattle.share_gateway.specs.Plan.{PlanView, TenantView, ascends, flows_of}
 use Rattle.share_gateway.specs.PlanChanges.{is_tenant, flow_by, tenant_flow}
@@ -60,9 +61,11 @@ first_of_due : (name : NameBytes) (kind : TextKind) (room events places : ℕ) (
 first_of_due name kind room events places left fit is =
     let due : List Event = map (packet_event name) (take places left) in
     let few : length fit ≤ length (take events due) =
-    subst (λ (fs : List Event). length fs ≤ length (take events due)) (sym is) (fitting-few kind room (take events due)) in
+    subst (λ (fs : List Event). length fs ≤ length (take events due)) (sym is)
+    (fitting-few kind room (take events due)) in
     let shown : fit ≡ take (length fit) (take events due) =
-    subst (λ (fs : List Event). fs ≡ take (length fs) (take events due)) (sym is) (fitting-is kind room (take events due)) in
+    subst (λ (fs : List Event). fs ≡ take (length fs) (take events due)) (sym is)
+    (fitting-is kind room (take events due)) in
     let one = length-take events due in
     let two = length-map (take places left) (packet_event name) in
     let three = length-take places left in
@@ -103,7 +106,7 @@ record AfterPackets (p : PlanView) (tenant : NameBytes) (payloads : List (List �
   packets : (name : NameBytes) → packets_of p after.buffers name
       ≡ packets_of p before.buffers name ++ own_of (bytes_eq name tenant) payloads
 
--- there is room where places are left
+-- there is room if places are left
 room_by_places : (l : Live) (name : NameBytes) (b : Bool) → has_room l name ≡ b → 0 < places_for l name → b ≡ true
 room_by_places l name true room some = refl
 room_by_places l name false full some =
@@ -134,7 +137,8 @@ come p tenant a (payload ∷ payloads) laid few =
       packets =
           λ name. rest.packets name
           ∙ ap (λ ps. ps ++ own_of (bytes_eq name tenant) payloads)
-          (ap (λ (l : Live). packets_of p l.buffers name) is ∙ packets-accept p a.link.live laid tenant payload room name)
+          (ap (λ (l : Live). packets_of p l.buffers name) is
+          ∙ packets-accept p a.link.live laid tenant payload room name)
           ∙ append_assoc (packets_of p a.link.live.buffers name) (payload_if (bytes_eq name tenant) payload)
           (own_of (bytes_eq name tenant) payloads)
           ∙ ap (λ ps. packets_of p a.link.live.buffers name ++ ps)
@@ -174,7 +178,8 @@ module _ (q : PlanView) (rising : ascends 0 (flows_of q.tenants) ≡ true) (bs :
       ∙ sym (none-waits q bs rising shelved name absent)
   other_left name apart (Some t) found =
       ap packets_by (gone_other (tenant_flow q tenant) n bs (tenant_flow q name)
-      (ap (λ o. nat_eq (flow_by o) (tenant_flow q tenant)) found ∙ flows-apart q.tenants rising name tenant t found apart))
+      (ap (λ o. nat_eq (flow_by o) (tenant_flow q tenant)) found
+      ∙ flows-apart q.tenants rising name tenant t found apart))
 
   left_by : (name : NameBytes) (own : Bool) → bytes_eq name tenant ≡ own
       → packets_of q (without_first (tenant_flow q tenant) n bs) name
@@ -189,7 +194,8 @@ module _ (q : PlanView) (rising : ascends 0 (flows_of q.tenants) ≡ true) (bs :
 
 -- a new book over a plan and the closed one of another, while packets are carried: of the tenant of a name those in the
 -- new book, followed by those that are left, are all that waited, and the new buffer holds no more than its limit
-pub record IsBetween (p q : PlanView) (name : NameBytes) (all : List (List ℕ)) (l : Live) (c : ClosedView) : Type 0 where
+pub record IsBetween (p q : PlanView) (name : NameBytes) (all : List (List ℕ)) (l : Live)
+    (c : ClosedView) : Type 0 where
   pub laid : IsLaidOut p l
   pub plan : c.plan ≡ q
   pub shelved : AreShelved q c.buffers
@@ -210,7 +216,8 @@ length_taken : (n : ℕ) (xs ys : List (List ℕ)) → n ≤ length ys → lengt
 length_taken n xs ys few =
     let all = length-append xs (take n ys) in let some = length-take n ys in omega (arith, few, all, some)
 
-module _ (p q : PlanView) (rising : ascends 0 (flows_of q.tenants) ≡ true) (name : NameBytes) (all : List (List ℕ)) where
+module _ (p q : PlanView) (rising : ascends 0 (flows_of q.tenants) ≡ true) (name : NameBytes)
+    (all : List (List ℕ)) where
   module _ (a : Audited) (c : ClosedView) (tenant : NameBytes) (was : IsBetween p q name all a.link.live c) where
     abbrev pub over : Carrying
     over = carry_tenant a c tenant
@@ -222,13 +229,15 @@ module _ (p q : PlanView) (rising : ascends 0 (flows_of q.tenants) ≡ true) (na
     first = are_first a c tenant
 
     came : AfterPackets p tenant (take (length (carried_for a c tenant)) (left_for c tenant)) a.link.live
-        (fold after_event a (map (packet_event tenant) (take (length (carried_for a c tenant)) (left_for c tenant)))).link.live
+        (fold after_event a (map (packet_event tenant)
+        (take (length (carried_for a c tenant)) (left_for c tenant)))).link.live
     came =
         let some = length-take (length (carried_for a c tenant)) (left_for c tenant) in
         let few = first.places in
         come p tenant a (take (length (carried_for a c tenant)) (left_for c tenant)) was.laid (omega (arith, some, few))
 
-    book_is : fold after_event a (map (packet_event tenant) (take (length (carried_for a c tenant)) (left_for c tenant)))
+    book_is : fold after_event a (map (packet_event tenant)
+        (take (length (carried_for a c tenant)) (left_for c tenant)))
         ≡ fold after_event a (carried_for a c tenant)
     book_is = ap (fold after_event a) (sym first.are)
 
@@ -250,7 +259,8 @@ module _ (p q : PlanView) (rising : ascends 0 (flows_of q.tenants) ≡ true) (na
         else packets_of q c.buffers name)
     packets_left name =
         ap (λ f. packets_of q (without_first f (length (carried_for a c tenant)) c.buffers) name) flow_is
-        ∙ left_by q rising c.buffers was.shelved tenant (length (carried_for a c tenant)) name (bytes_eq name tenant) refl
+        ∙ left_by q rising c.buffers was.shelved tenant (length (carried_for a c tenant)) name (bytes_eq name tenant)
+        refl
 
     between_by : (n : ℕ) (m : Live) (d : ClosedView) → IsLaidOut p m → d.plan ≡ q → AreShelved q d.buffers
         → n ≤ length (packets_of q c.buffers name)
@@ -274,7 +284,8 @@ module _ (p q : PlanView) (rising : ascends 0 (flows_of q.tenants) ≡ true) (na
     }
 
     went_by : (own : Bool) → bytes_eq name tenant ≡ own
-        → WentOver p q name (if own then length (carried_for a c tenant) else 0) a.link.live over.book.link.live c over.closed
+        → WentOver p q name (if own then length (carried_for a c tenant) else 0) a.link.live over.book.link.live c
+        over.closed
     went_by true test =
         let same : name ≡ tenant = same_name name tenant test in
         record {
@@ -409,7 +420,8 @@ module _ (p q : PlanView) (rising : ascends 0 (flows_of q.tenants) ≡ true) (na
   ahead_next x t ts was went false test (inr found) =
       inr (found.0, sym (cond-false (bytes_eq name t.name) (Some t) (find (is_tenant name) ts) test) ∙ found.1)
 
-  stopped_not : (x : Carrying) (t : TenantView) (ts : List TenantView) → carry_next x t ≡ carry_tenant x.book x.closed t.name
+  stopped_not : (x : Carrying) (t : TenantView) (ts : List TenantView)
+      → carry_next x t ≡ carry_tenant x.book x.closed t.name
       → (fold carry_next (carry_next x t) ts).stopped ≡ false → (b : Bool)
       → (carry_tenant x.book x.closed t.name).stopped ≡ b → (carry_tenant x.book x.closed t.name).stopped ≡ false
   stopped_not x t ts is went false stopped = stopped
@@ -427,7 +439,8 @@ module _ (p q : PlanView) (rising : ascends 0 (flows_of q.tenants) ≡ true) (na
       let is : carry_next x t ≡ carry_tenant x.book x.closed t.name =
       cond-false x.stopped x (carry_tenant x.book x.closed t.name) stopped in
       let on = stopped_not x t ts is went (carry_tenant x.book x.closed t.name).stopped refl in
-      rest (subst (λ (y : Carrying). IsAhead y ts) (sym is) (ahead_next x t ts was on (bytes_eq name t.name) refl ahead))
+      rest (subst (λ (y : Carrying). IsAhead y ts) (sym is)
+      (ahead_next x t ts was on (bytes_eq name t.name) refl ahead))
 
   pub settled-all : (x : Carrying) (ts : List TenantView) → Between x → (fold carry_next x ts).stopped ≡ false
       → IsAhead x ts → Settled (fold carry_next x ts)

@@ -24,7 +24,7 @@ use Rattle.share_model.specs.link.Frame.{Packet}
 use Rattle.share_model.specs.link.View.{LinkView}
 use Rattle.share_model.specs.link.Live.{Live}
 use Rattle.share_model.specs.lists.Change.{change_first}
-use Rattle.share_model.proofs.lemmas.lists.Laws.{find-change_first}
+use Rattle.share_model.proofs.lemmas.lists.FirstItemLemmas.{find-change_first}
 use Rattle.share_book.specs.Audited.{Audited, after_event, lacks_text}
 use Rattle.share_book.specs.Carry.{packets_by, left_for, places_by, places_for, packet_event}
 use Rattle.share_book.specs.Closed.{ClosedView}
@@ -50,14 +50,16 @@ number_kept name f b (e ∷ es) =
     cond_both (is_open_as f e) (active_as b e ∷ es) (e ∷ with_activity f b es)
     (λ (after : List (NameBytes × OpenFlow)).
     number_in (lookup (bytes_eq name) after) ≡ number_in (lookup (bytes_eq name) (e ∷ es)))
-    (λ _. by_number (bytes_eq name e.0) (active_as b e).1 e.1 (lookup (bytes_eq name) es) (lookup (bytes_eq name) es) refl
+    (λ _. by_number (bytes_eq name e.0) (active_as b e).1 e.1 (lookup (bytes_eq name) es) (lookup (bytes_eq name) es)
+    refl
     refl)
     (λ _. by_number (bytes_eq name e.0) e.1 e.1 (lookup (bytes_eq name) (with_activity f b es))
     (lookup (bytes_eq name) es) refl (number_kept name f b es))
 
 -- ---- The buffer of a flow
 
-pub pushed : (bs : List Buffer) (f : ℕ) (p : List ℕ) → buffer_of (push_in bs f p) f ≡ option_map (with_packet p) (buffer_of bs f)
+pub pushed : (bs : List Buffer) (f : ℕ) (p : List ℕ)
+    → buffer_of (push_in bs f p) f ≡ option_map (with_packet p) (buffer_of bs f)
 pushed bs f p = find-change_first (is_buffer_of f) (with_packet p) (λ b own. own) bs
 
 pub popped : (bs : List Buffer) (f : ℕ) → buffer_of (pop_in bs f) f ≡ option_map without_head (buffer_of bs f)
@@ -113,7 +115,7 @@ module _ (a : Audited) (c : ClosedView) (name : NameBytes) (p : List ℕ) (free 
   accepted : (after_event a (packet_event name p)).link.live ≡ accept a.link.live (named_number a.link.live name) p
   accepted = ap (λ (d : Live × Reply). d.0) (accept-is a.link.live name p free)
 
-  -- what is due after a packet is the rest of what was due
+  -- the packets that are due after a packet are the rest of those that were due
   pub due-after : due_for a c name
       ≡ packet_event name p ∷ due_for (after_event a (packet_event name p)) (popped_from c name) name
   due-after =
@@ -185,7 +187,8 @@ none_packets (Some b) none = none_list b b.packets none
 pub head-none : (bs : List Buffer) (f : ℕ) → head_of bs f ≡ None → count_in bs f ≡ 0
 head-none bs f none = none_packets (buffer_of bs f) none
 
-pub fold_last : {A B : Type 0} (f : B → A → B) (b : B) (xs : List A) (x : A) → fold f b (xs ++ x ∷ []) ≡ f (fold f b xs) x
+pub fold_last : {A B : Type 0} (f : B → A → B) (b : B) (xs : List A) (x : A)
+    → fold f b (xs ++ x ∷ []) ≡ f (fold f b xs) x
 fold_last f b [] x = refl
 fold_last f b (y ∷ ys) x = fold_last f (f b y) ys x
 
@@ -215,11 +218,12 @@ fitting_none : (kind : TextKind) (room : ℕ) (es : List Event) → nat_lt room 
 fitting_none kind room [] lacks = refl
 fitting_none kind room (e ∷ es) lacks = cond-true (nat_lt room (longest_line kind)) _ _ lacks
 
-pub textless-carried : (a : Audited) (c : ClosedView) (name : NameBytes) → lacks_text a ≡ true → carried_for a c name ≡ []
+pub textless-carried : (a : Audited) (c : ClosedView) (name : NameBytes) → lacks_text a ≡ true
+    → carried_for a c name ≡ []
 textless-carried a c name lacks =
     fitting_none a.kind (text_room a.text) (take (a.link.life - a.link.live.counts.events) (due_for a c name)) lacks
 
--- a packet that waits is due where there is room
+-- a packet that waits is due if there is room
 pub count_packets : (o : Option Buffer) → count_by o ≡ length (packets_by o)
 count_packets None = refl
 count_packets (Some b) = refl
@@ -274,7 +278,8 @@ pub due-some : (a : Audited) (c : ClosedView) (name : NameBytes) → has_room a.
 due-some a c name free some = omega (arith, due-length a c name, room-places a.link.live name free, some)
 
 -- these events were made, and what is due and will be carried is the rest
-pub record IsPartCarried (first : Audited) (before : ClosedView) (name : NameBytes) (a : Audited) (c : ClosedView) : Type 0
+pub record IsPartCarried (first : Audited) (before : ClosedView) (name : NameBytes) (a : Audited)
+    (c : ClosedView) : Type 0
   where
     pub gone : List Event
     pub due : due_for first before name ≡ gone ++ due_for a c name

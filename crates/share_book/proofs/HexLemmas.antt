@@ -4,7 +4,7 @@ use Rattle.std.proofs.Common.{length, take, drop, append_assoc}
 use Rattle.std.proofs.Math.Seq.{take-add}
 use Rattle.std.proofs.lemmas.List.{length-append, length-drop, length-take-le}
 use Rattle.share_model.specs.text.Lines.{hex}
-use Rattle.share_model.proofs.lemmas.text.WordLaws.{length-hex}
+use Rattle.share_model.proofs.lemmas.text.WordLemmas.{length-hex}
 use Rattle.share_text.proofs.HexLemmas.{hex_append}
 use Rattle.share_book.specs.Texts.{TextView, text_room, with_bytes}
 
@@ -23,7 +23,7 @@ with-piece t bytes at count =
     (append_assoc t.bytes (hex (take at bytes)) (hex (take count (drop at bytes)))
     ∙ ap (λ d. t.bytes ++ d) (hex-piece bytes at count))
 
--- a piece has room where all the digits have
+-- a piece has room if all the digits have
 pub piece-room : (t : TextView) (bytes : List ℕ) (at count : ℕ) → at + count ≤ length bytes
     → 2 * length bytes ≤ text_room t → 2 * count ≤ text_room (with_bytes t (hex (take at bytes)))
 piece-room t bytes at count inside room =

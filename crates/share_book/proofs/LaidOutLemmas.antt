@@ -29,11 +29,11 @@ use Rattle.share_model.specs.link.Live.{Live, by_refusal}
 use Rattle.share_model.specs.link.Turns.{Sending, sending_at, sending_by, sending, whole}
 use Rattle.share_model.specs.lists.Change.{change_first}
 use Rattle.share_model.specs.stride.Moves.{next}
-use Rattle.share_model.proofs.lemmas.link.BufferLaws.{IsHeadBuffer, head_buffer, head_of-flow, other_buffer}
-use Rattle.share_model.proofs.lemmas.lists.Laws.{find-change_first_other, find-holds}
-use Rattle.share_model.proofs.lemmas.lists.Laws.{map-change_first}
-use Rattle.share_model.proofs.lemmas.lists.RemoveLaws.{other_way}
-use Rattle.share_model.proofs.lemmas.lists.SumLaws.{same_name, name_sym}
+use Rattle.share_model.proofs.lemmas.link.BufferLemmas.{IsHeadBuffer, head_buffer, head_of-flow, other_buffer}
+use Rattle.share_model.proofs.lemmas.lists.FirstItemLemmas.{find-change_first_other, find-holds}
+use Rattle.share_model.proofs.lemmas.lists.FirstItemLemmas.{map-change_first}
+use Rattle.share_model.proofs.lemmas.lists.RemovalLemmas.{other_way}
+use Rattle.share_model.proofs.lemmas.lists.SumLemmas.{same_name, name_sym}
 use Rattle.share_gateway.specs.Plan.{PlanView, TenantView, ascends, flows_of, has_name}
 use Rattle.share_gateway.specs.PlanChanges.{is_tenant, flow_by, tenant_flow, held_as, with_hold}
 use Rattle.share_gateway.specs.PlanChanges.{currency_amended, tenant_amended, with_amount}
@@ -78,7 +78,7 @@ map_if : {A B : Type 0} (f : A → B) (b : Bool) (x : A) (o : Option A) (q : Opt
 map_if f true x o q rest = refl
 map_if f false x o q rest = rest
 
--- what is found among images is the image of what is found
+-- the item that is found among images is the image of the item that is found
 find_map : {A B : Type 0} (f : A → B) (test : B → Bool) (xs : List A)
     → find test (map f xs) ≡ option_map f (find (λ x. test (f x)) xs)
 find_map f test [] = refl
@@ -163,7 +163,7 @@ module _ (p : PlanView) (bs : List Buffer) (rising : ascends 0 (flows_of p.tenan
     none_by None is = refl
     none_by (Some b) is = cc
 
-    -- of a name that the plan lacks nothing waits
+    -- nothing waits of a name that the plan lacks
     pub none-waits : (name : NameBytes) → find (is_tenant name) p.tenants ≡ None → packets_of p bs name ≡ []
     none-waits name absent =
         ap (λ o. packets_by (buffer_of bs (flow_by o))) absent
@@ -193,7 +193,8 @@ without_one : (o : Option Buffer) → packets_by (option_map without_head o) ≡
 without_one None = refl
 without_one (Some b) = refl
 
-pub packets-pop : (bs : List Buffer) (f : ℕ) → packets_by (buffer_of (pop_in bs f) f) ≡ drop 1 (packets_by (buffer_of bs f))
+pub packets-pop : (bs : List Buffer) (f : ℕ)
+    → packets_by (buffer_of (pop_in bs f) f) ≡ drop 1 (packets_by (buffer_of bs f))
 packets-pop bs f = ap packets_by (popped bs f) ∙ without_one (buffer_of bs f)
 
 pub buffer-pop_other : (bs : List Buffer) (f g : ℕ) → nat_eq g f ≡ false → buffer_of (pop_in bs f) g ≡ buffer_of bs g
@@ -289,7 +290,8 @@ module _ (p : PlanView) (l : Live) (laid : IsLaidOut p l) where
 
 -- ---- A frame that is sent
 
-sending_head_by : (l : Live) (s : Sending) (o : Option ℕ) → option_map (sending_at l 0) (option_and_then (head_of l.buffers) o) ≡ Some s
+sending_head_by : (l : Live) (s : Sending) (o : Option ℕ)
+    → option_map (sending_at l 0) (option_and_then (head_of l.buffers) o) ≡ Some s
     → head_of l.buffers s.head.flow ≡ Some s.head
 sending_head_by l s None is = cc
 sending_head_by l s (Some f) is = by_head (head_of l.buffers f) refl is
@@ -308,7 +310,8 @@ unfolding sending
 sending-head l s unparted is =
     sending_head_by l s (next l.queue.clients) (sym (ap (sending_by l) unparted) ∙ is)
 
-module _ (rates : List Rate) (p : PlanView) (l : Live) (laid : IsLaidOut p l) (s : Sending) (is : sending l ≡ Some s) where
+module _ (rates : List Rate) (p : PlanView) (l : Live) (laid : IsLaidOut p l) (s : Sending)
+    (is : sending l ≡ Some s) where
   pub laid-whole : (k : ℕ) → IsLaidOut p (whole rates l s k)
   laid-whole k = record {
     rising = laid.rising;
@@ -434,7 +437,8 @@ keeps_amount_by name index amount p false = record {
   limits = map-change_first place_key (is_tenant name) (tenant_amended index amount) (λ t. refl) p.tenants;
 }
 
-pub keeps-amount : (name : NameBytes) (index amount : ℕ) (p : PlanView) → KeepsTenants p (with_amount name index amount p)
+pub keeps-amount : (name : NameBytes) (index amount : ℕ) (p : PlanView)
+    → KeepsTenants p (with_amount name index amount p)
 keeps-amount name index amount p = keeps_amount_by name index amount p (is_some (find (has_name name) p.currencies))
 
 flows_numbers : (ts : List TenantView) → map (λ (k : NameBytes × ℕ). k.1) (map tenant_key ts) ≡ flows_of ts

@@ -10,8 +10,8 @@ use Rattle.share_model.specs.link.View.{LinkView}
 use Rattle.share_model.specs.run.Events.{MayFollow}
 use Rattle.share_model.specs.run.Fold.{State, empty_state, state_after, step}
 use Rattle.share_model.specs.run.Sound.{SoundState, max_life}
-use Rattle.share_model.proofs.lemmas.run.BytesLaws.{keeps-commanded}
-use Rattle.share_model.proofs.lemmas.run.FoldLaws.{state-empty, state-step}
+use Rattle.share_model.proofs.lemmas.run.ByteLemmas.{keeps-commanded}
+use Rattle.share_model.proofs.lemmas.run.EventLemmas.{state-empty, state-step}
 use Rattle.share_journal.specs.Records.{IsRunOf}
 use Rattle.share_book.specs.Audited.{IsRunAndText, SendsWhole}
 use Rattle.share_gateway.specs.Opened.{IsOpened, event_of, is_book_life, opening_events, opening_outcomes}
@@ -62,7 +62,8 @@ own_commands rates s (c ∷ cs) = (tt, own_commands rates (step rates s (event_o
 life_lasts : (events : ℕ) → is_book_life events ≡ true → events ≤ max_life
 life_lasts events lasts = leb-true events (2 ^ 24) (and_parts (nat_le 131072 events) _ lasts).1
 
-module _ (rates : List Rate) (p : PlanView) (events : ℕ) (link : LinkView (Unit {0})) (was : IsOpened rates p events link)
+module _ (rates : List Rate) (p : PlanView) (events : ℕ) (link : LinkView (Unit {0}))
+    (was : IsOpened rates p events link)
   where
     pub open-whole : SendsWhole link.live
     open-whole =

@@ -28,14 +28,14 @@ use Rattle.share_model.specs.run.Fold.{State, empty_state, state_after, step}
 use Rattle.share_model.specs.run.Sound.{Sound, max_life}
 use Rattle.share_model.specs.declared.rates.Rate.{Rate}
 use Rattle.share_model.specs.text.Audit.{written_line}
-use Rattle.share_model.proofs.lemmas.link.AnswerLaws.{arrival-answers, command-answers}
-use Rattle.share_model.proofs.lemmas.run.BytesLaws.{KeepsFrames, keeps-arrived, keeps-commanded}
-use Rattle.share_model.proofs.lemmas.run.Laws.{Ran, AskedOutcome, asked_spent, asked_no_memory, asked_made}
-use Rattle.share_model.proofs.lemmas.run.Laws.{arrive-asked, command-asked}
+use Rattle.share_model.proofs.lemmas.link.AnswerLemmas.{arrival-answers, command-answers}
+use Rattle.share_model.proofs.lemmas.run.ByteLemmas.{KeepsFrames, keeps-arrived, keeps-commanded}
+use Rattle.share_model.proofs.lemmas.run.CallLemmas.{Ran, AskedOutcome, asked_spent, asked_no_memory, asked_made}
+use Rattle.share_model.proofs.lemmas.run.CallLemmas.{arrive-asked, command-asked}
 use Rattle.share_core.specs.Lent.{lent}
 use Rattle.share_core.specs.Room.{has_room}
 use Rattle.share_journal.specs.Records.{IsRunOf}
-use Rattle.share_journal.proofs.Runs.{run_on, run-sound}
+use Rattle.share_journal.proofs.RunLemmas.{run_on, run-sound}
 use Rattle.share_book.specs.Texts.{first_line, line_in, TextView, with_bytes, after_drain}
 use Rattle.share_book.specs.Audited.{Audited, IsRunAndText, SendsWhole, after_event, is_no_memory}
 use Rattle.share_book.specs.BookEvents.{AreBookEvents, IsBookEvent}
@@ -43,7 +43,7 @@ use Rattle.share_book.specs.declared.book_text.TextKind.{TextKind}
 use Rattle.share_book.proofs.TakeLemmas.{taken-room}
 use Rattle.share_book.specs.declared.book_text.TextKind.TheVariants.{Whole, Lengths}
 
--- nothing is told
+-- nothing is said
 abbrev pub nothing_told : {W : Type 0} → W → Option Told
 nothing_told _ = None
 
@@ -77,7 +77,8 @@ module _ {W : Type 0} (old new : Audited) (before after : W) where
     replies = was.replies ++ o ∷ [];
     drained = was.drained;
     run =
-        subst (λ life. IsRunOf None Two life new.link.rates new.link.live (was.events ++ e ∷ []) (was.replies ++ o ∷ []))
+        subst (λ life. IsRunOf None Two life new.link.rates new.link.live (was.events ++ e ∷ [])
+        (was.replies ++ o ∷ []))
         (sym ran.life)
         (subst (λ rates. IsRunOf None Two old.link.life rates new.link.live (was.events ++ e ∷ [])
         (was.replies ++ o ∷ [])) (sym ran.rates)

@@ -26,11 +26,11 @@ use Rattle.share_model.specs.link.Turns.{wrote_turn, write_step}
 use Rattle.share_model.specs.link.View.{LinkView}
 use Rattle.share_model.specs.run.Sound.{Sound}
 use Rattle.share_model.specs.stride.Moves.{next}
-use Rattle.share_model.proofs.lemmas.link.TurnLaws.{turn-went, written-step}
-use Rattle.share_model.proofs.lemmas.run.Laws.{Ran, turn-ran, turn_events, turn_outcomes}
-use Rattle.share_model.proofs.lemmas.run.SoundLaws.{sending-few, sending-short}
+use Rattle.share_model.proofs.lemmas.link.TurnLemmas.{turn-went, written-step}
+use Rattle.share_model.proofs.lemmas.run.CallLemmas.{Ran, turn-ran, turn_events, turn_outcomes}
+use Rattle.share_model.proofs.lemmas.run.SoundLinkLemmas.{sending-few, sending-short}
 use Rattle.share_core.specs.Lent.{lent}
-use Rattle.share_journal.proofs.Runs.{run-sound}
+use Rattle.share_journal.proofs.RunLemmas.{run-sound}
 use Rattle.share_book.specs.Audited.{Audited, SendsWhole}
 use Rattle.share_book.specs.Sends.{SentNext, SentWhole}
 use Rattle.share_gateway.specs.Outbox.{OutboxView, OutboxAnswers, room_of, takes, with_frame}
@@ -49,7 +49,7 @@ nothing_tells before piece (Accepted k) after did = let same = did.0 in (omega (
 nothing_tells before piece Interrupted after did = refl
 nothing_tells before piece Failed after did = absurd did
 
--- a frame has room where the longest one has
+-- a frame has room if the longest one has
 pub takes-short : (o : OutboxView) (n : ℕ) → 9017 ≤ room_of o → n ≤ 9017 → takes o n ≡ true
 takes-short o n room few = grind (arith, nat_tests)
 
@@ -86,7 +86,8 @@ some_bytes : (s : Sending) → s.out < length (frame_of s) → (length (frame_of
 some_bytes s few = grind (arith, nat_tests)
 
 wrote_all : (rates : List Rate) (l : Live) (s : Sending) → s.out ≡ 0
-    → write_step rates l s (length (frame_of s)) ≡ (whole rates l s (length (frame_of s)), wrote_turn s (length (frame_of s)) true)
+    → write_step rates l s (length (frame_of s))
+    ≡ (whole rates l s (length (frame_of s)), wrote_turn s (length (frame_of s)) true)
 wrote_all rates l s new = cond-true (is_whole s (length (frame_of s))) _ _ (is_whole_all s new)
 
 accepted_all : (rates : List Rate) (l : Live) (s : Sending) (k : ℕ) → s.out ≡ 0 → s.out < length (frame_of s)
@@ -157,7 +158,8 @@ module _ (old new : LinkView (Unit {0})) (before after : OutboxView) (s : Sendin
     sent_ran range =
         let went = turn-went nothing_told OutboxAnswers nothing_tells (lent old before) 9017 turn (lent new after) sound
         did in
-        let P : Turn → Type 0 = λ t. Ran nothing_told (lent old before) (turn_events t) (turn_outcomes t) (lent new after)
+        let P : Turn → Type 0 = λ t. Ran nothing_told (lent old before) (turn_events t) (turn_outcomes t)
+        (lent new after)
         in subst P sent-whole.turn_is (turn-ran nothing_told (lent old before) (lent new after) range 9017 turn went)
 
 -- ---- What holds between calls
@@ -171,7 +173,8 @@ module _ (old : Audited) (link : LinkView (Unit {0})) (before after : OutboxView
     (did : TurnCall OutboxAnswers (lent old.link before) 9017 turn (lent link after)) where
   sent_all : IsWhole old.link before s turn link.live after
   sent_all =
-      sent-whole old.link link before after s turn (run-sound was.0.run) was.1.unparted is room living was.1.unbroken did
+      sent-whole old.link link before after s turn (run-sound was.0.run) was.1.unparted is room living was.1.unbroken
+      did
 
   pub send-kept : IsKept (with_link old link (Written (length (frame_of s))))
   send-kept = (
@@ -249,7 +252,8 @@ module _ (old : Audited) (link : LinkView (Unit {0})) (before after : OutboxView
     kept_some None is some = cc
     kept_some (Some s) is some =
         subst (λ t. IsKept (record { link = link; kind = old.kind; text = t }))
-        (sym (text_is ∙ sent_text s is flow seq k all wrote)) (send-kept old link before after s turn was is room living did)
+        (sym (text_is ∙ sent_text s is flow seq k all wrote))
+        (send-kept old link before after s turn was is room living did)
 
     pub sent-kept : IsKept (record { link = link; kind = old.kind; text = text })
     sent-kept =
@@ -260,7 +264,8 @@ module _ (old : Audited) (link : LinkView (Unit {0})) (before after : OutboxView
     did_some None is some = cc
     did_some (Some s) is some =
         subst (λ t. SentWhole old before s turn (record { link = link; kind = old.kind; text = t }) after)
-        (sym (text_is ∙ sent_text s is flow seq k all wrote)) (send-did old link before after s turn was is room living did)
+        (sym (text_is ∙ sent_text s is flow seq k all wrote))
+        (send-did old link before after s turn was is room living did)
 
     pub sent-did : SentNext old before (sending old.link.live) turn
         (record { link = link; kind = old.kind; text = text }) after

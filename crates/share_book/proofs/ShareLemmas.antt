@@ -5,8 +5,8 @@ use Rattle.share_base.specs.declared.command.Event.{Event}
 use Rattle.share_base.specs.declared.version.Version.TheVariants.{Two}
 use Rattle.share_model.specs.run.Events.{MayRun}
 use Rattle.share_model.specs.run.Fold.{empty_state}
-use Rattle.share_model.proofs.lemmas.run.FoldLaws.{may_follow-front}
-use Rattle.share_model.proofs.lemmas.run.ShareLaws.{run-shares}
+use Rattle.share_model.proofs.lemmas.run.EventLemmas.{may_follow-front}
+use Rattle.share_model.proofs.lemmas.run.ShareLemmas.{run-shares}
 use Rattle.share_book.specs.Audited.{Audited, IsRunAndText}
 use Rattle.share_book.specs.Shares.{SharesOfEvents}
 

@@ -24,7 +24,11 @@ accept_in l f p None free = cc
 accept_in l f p (Some b) free = accept_free (is_full b) _ _ free
 
 accept_by : (l : Live) (p : List ℕ) (o : Option OpenFlow) → has_room_by l.buffers o ≡ true
-    → arrive_by l p o ≡ (accept l (flow_number o) p, Packet (flow_number o) (next_in (buffer_of l.buffers (flow_number o))))
+    → arrive_by l p o ≡ (
+      accept l (flow_number o) p,
+      Packet (flow_number o)
+          (next_in (buffer_of l.buffers (flow_number o))),
+    )
 accept_by l p None free = cc
 accept_by l p (Some e) free = accept_in l e.number p (buffer_of l.buffers e.number) free
 

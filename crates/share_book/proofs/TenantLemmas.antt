@@ -6,8 +6,8 @@ use Rattle.std.proofs.lemmas.Bool.{cond-true, cond-false}
 use Rattle.std.proofs.lemmas.Bool.Decides.{nat_tests}
 use Rattle.std.proofs.lemmas.Option.{same_Some}
 use Rattle.share_model.specs.funding.Graph.{NameBytes}
-use Rattle.share_model.proofs.lemmas.lists.Laws.{find-holds}
-use Rattle.share_model.proofs.lemmas.lists.SumLaws.{same_name, name_refl}
+use Rattle.share_model.proofs.lemmas.lists.FirstItemLemmas.{find-holds}
+use Rattle.share_model.proofs.lemmas.lists.SumLemmas.{same_name, name_refl}
 use Rattle.share_gateway.specs.Plan.{TenantView, ascends, flows_of}
 use Rattle.share_gateway.specs.PlanChanges.{is_tenant, flow_by}
 
@@ -33,7 +33,8 @@ flow_above_by n t u o true above rest found =
     let same = ap (λ (t : TenantView). t.flow) (same_Some t u found) in omega (arith, same, above)
 flow_above_by n t u o false above rest found = rest found
 
-pub flow-above : (p : TenantView → Bool) (n : ℕ) (ts : List TenantView) (u : TenantView) → ascends n (flows_of ts) ≡ true
+pub flow-above : (p : TenantView → Bool) (n : ℕ) (ts : List TenantView) (u : TenantView)
+    → ascends n (flows_of ts) ≡ true
     → find p ts ≡ Some u → n < u.flow
 flow-above p n [] u rising found = cc
 flow-above p n (t ∷ ts) u rising found =

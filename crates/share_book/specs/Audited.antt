@@ -42,7 +42,7 @@ after_event a e = record {
 abbrev pub outcome_in : Audited → Event → Outcome
 outcome_in a e = (live_step a.link.rates a.link.live e).1
 
--- What holds between calls
+-- The invariant between calls
 
 -- the link is of version 2, no frame of it is in part, and none was torn
 pub record SendsWhole (l : Live) : Type 0 where

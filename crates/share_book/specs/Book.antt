@@ -1,4 +1,4 @@
--- What a contract sees of a book, and what its calls do.
+-- The view of a book in contracts, and the effects of its calls.
 use Rattle.std.specs.Prelude.{◌≡◌, ◌⊎◌, ℕ, Bool, not, List, [], ◌∷◌, length, is_some, MatchOption, Option, None, Some}
 use Rattle.std.specs.Prelude.{if◌then◌else◌}
 use Rattle.share_base.specs.Body.{unstamped, is_payload_length}
@@ -60,7 +60,7 @@ pub record TakesPacket (old : Audited) (name payload : List ℕ) (taken : Taken)
   pub answer : taken ≡ Packet (next_number old.link.live name)
   pub event : new ≡ after_event old (Arrived name (unstamped payload))
 
--- unless one of these refusals stands, the packet is taken, or memory was refused for it; else nothing changes
+-- unless one of these refusals stands, the packet is taken, or memory was refused for it; otherwise nothing changes
 abbrev pub Takes : Audited → NameBytes → List ℕ → Taken → Audited → Type 0
 Takes old name payload taken new =
     MatchOption (take_refusal old name (length payload))
@@ -89,7 +89,7 @@ abbrev pub SendsNext : Audited → OutboxView → Option Sending → Turned → 
 SendsNext old before None turned new after = ⊥
 SendsNext old before (Some s) turned new after = SendsFrame old before s turned new after
 
--- unless one of these refusals stands, the next frame is sent; else nothing changes
+-- unless one of these refusals stands, the next frame is sent; otherwise nothing changes
 abbrev pub Turns : Audited → OutboxView → Turned → Audited → OutboxView → Type 0
 Turns old before turned new after =
     MatchOption (turn_refusal old before) (SendsNext old before (sending old.link.live) turned new after)

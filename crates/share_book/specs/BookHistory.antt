@@ -54,7 +54,7 @@ pub data CarriesAll : Audited → List TenantView → ClosedView → Audited →
       (after : ClosedView)
       → CarriesAll (drained_by old n) tenants before new after → CarriesAll old tenants before new after
 
--- of a tenant's packets the first ones wait in the new book, as many as its buffer has room for; the others are left
+-- the first of a tenant's packets wait in the new book, as many as its buffer has room for; the others are left
 pub record IsCut (name : NameBytes) (limit : ℕ) (old : BookView) (new : BookView) (after : ClosedView) : Type 0 where
   pub carried : waiting_in new name ≡ take limit (waiting_in old name)
   pub dropped : left_for after name ≡ drop limit (waiting_in old name)

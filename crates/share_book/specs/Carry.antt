@@ -1,4 +1,4 @@
--- What is carried over from a book that was closed to a new one.
+-- The packets that are carried over from a book that was closed to a new one.
 use Rattle.std.specs.Prelude.{◌≡◌, ◌-◌, ℕ, zero, suc, Bool, false, List, [], ◌∷◌, length, map, take, drop}
 use Rattle.std.specs.Prelude.{nat_lt, sum_by, Option, None, Some, option_map, if◌then◌else◌}
 use Rattle.std.specs.List.{fold}
@@ -71,13 +71,14 @@ carried_for a c name =
     fitting a.kind (text_room a.text)
     (take (a.link.life - a.link.live.counts.events) (due_for a c name))
 
--- so many packets of a flow were taken out, from the head on
+-- that many packets of a flow were taken out, from the head on
 abbrev pub without_first : ℕ → ℕ → List Buffer → List Buffer
 without_first flow zero bs = bs
 without_first flow (suc n) bs = without_first flow n (pop_in bs flow)
 
 -- the first packet of a tenant is an event of the book, and is taken out of the closed one
-pub record IsCarried (old : Audited) (before : ClosedView) (name : NameBytes) (new : Audited) (after : ClosedView) : Type 0
+pub record IsCarried (old : Audited) (before : ClosedView) (name : NameBytes) (new : Audited)
+    (after : ClosedView) : Type 0
   where
     pub payload : List ℕ
     pub head : left_for before name ≡ payload ∷ drop 1 (left_for before name)

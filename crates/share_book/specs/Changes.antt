@@ -1,4 +1,4 @@
--- What control lines change: the hold of a tenant and the amount of a grant, in the link and in the plan.
+-- The effects of control lines: the hold of a tenant and the amount of a grant, in the link and in the plan.
 use Rattle.std.specs.Prelude.{◌≡◌, ◌-◌, ℕ, Bool, true, false, MatchBool, MatchResult, if◌then◌else◌}
 use Rattle.share_base.specs.declared.command.Command.{Command}
 use Rattle.share_base.specs.declared.command.Command.TheVariants.{Amend}
@@ -19,11 +19,11 @@ abbrev pub is_done : Reply → Bool
 is_done Done = true
 is_done _ = false
 
--- the plan changes where the link did
+-- the plan changes if the link did
 abbrev pub plan_after : Reply → PlanView → PlanView → PlanView
 plan_after reply old changed = if is_done reply then changed else old
 
--- the command is an event, with its line, also if it is refused, and what it does is done to the plan too
+-- the command is an event, with its line, even if it is refused, and what it does is done to the plan too
 pub record IsChange (old : BookView) (c : Command) (changed : PlanView) (reply : Reply) (new : BookView) : Type 0 where
   pub answer : Replied reply ≡ outcome_in old.audited (Commanded c)
   pub audited : new.audited ≡ after_event old.audited (Commanded c)

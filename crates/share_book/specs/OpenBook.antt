@@ -19,7 +19,7 @@ command_line c = written_line (Change c.command)
 abbrev pub opening_lines : TextKind → PlanView → List ℕ
 opening_lines kind p = first_line kind ++ flat_map command_line (opening p)
 
--- with room for 262144 bytes behind them
+-- with room for 262144 bytes after them
 abbrev pub opened_text : TextKind → PlanView → TextView
 opened_text kind p = record { bytes = opening_lines kind p; space = length (opening_lines kind p) + 262144 }
 

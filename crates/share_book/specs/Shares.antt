@@ -8,7 +8,7 @@ use Rattle.share_model.specs.run.Shares.{KeepCompeting, stretch_charges}
 use Rattle.share_model.specs.stride.Moves.{client}
 use Rattle.share_model.specs.stride.Shares.{IsWithinShare}
 
--- what the first of two flows is charged in these events, after this state, is within its share beside the other
+-- the charge of the first of two flows in these events, after this state, is within its share beside the other
 abbrev pub IsChargedWithin : ℕ → ℕ → List Rate → State → List Event → Type 0
 IsChargedWithin one other rates s stretch =
     IsWithinShare (client s.live.queue one).pass (client s.live.queue other).pass

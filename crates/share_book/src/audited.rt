@@ -50,7 +50,7 @@ impl<S: Rates> Model for AuditedEngine<S> {
 }
 
 impl<S: Rates + Drop> AuditedEngine<S> {
-    /// What of the text was not drained, and the buffers of the flows with the packets that wait in them.
+    /// The text that was not drained, and the buffers of the flows with the packets that wait in them.
     pub fn into_parts(self) -> (BookText, PayloadBuffers)
         ensures text { result.0 ≡ self.text }
         ensures buffers { result.1 ≡ self.link.live.buffers }
@@ -80,7 +80,7 @@ impl<S: Rates> AuditedEngine<S> {
         &self.engine
     }
 
-    /// What of the text was not drained.
+    /// The text that was not drained.
     pub fn text(&self) -> &[u8]
         ensures { result.now ≡ self.now.text.bytes }
     {

@@ -24,7 +24,7 @@ use share_gateway::Plan;
 use share_model::Rates;
 use std::marker::Model;
 
-/// What a book answers to a packet.
+/// The answer of a book to a packet.
 #[derive(Clone, Copy, Debug, PartialEq, Eq)]
 pub enum Taken {
     /// The packet was taken, and has this number among those of its flow.
@@ -41,7 +41,7 @@ pub enum Taken {
     NoMemory,
 }
 
-/// What a book answers to a turn.
+/// The answer of a book to a turn.
 #[derive(Clone, Copy, Debug, PartialEq, Eq)]
 pub enum Turned {
     /// The text has no room for the longest line.
@@ -110,7 +110,7 @@ impl<S: Rates> Book<S> {
         self.audited.engine().has_room(tenant)
     }
 
-    /// What of the text was not drained.
+    /// The text that was not drained.
     pub fn text(&self) -> &[u8]
         ensures { result.now ≡ self.now.audited.text.bytes }
     {

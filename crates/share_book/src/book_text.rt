@@ -10,7 +10,7 @@ use std::marker::Model;
 /// How many bytes are spelled at a time.
 const PIECE: usize = 512;
 
-/// What the text of a book says of packets.
+/// The lines for packets in the text of a book.
 #[derive(Clone, Copy, Debug, PartialEq, Eq)]
 pub enum TextKind {
     /// Their payloads, in hexadecimal: the text is an audit.
@@ -61,7 +61,7 @@ impl BookText {
         }
     }
 
-    /// Makes space for this many bytes behind those that wait. If memory is refused, nothing changes.
+    /// Makes space for this many bytes after those that wait. If memory is refused, nothing changes.
     pub fn reserve(&mut self, count: usize) -> Result<(), AllocError>
         ensures ok { IfOk result (λ _. self.new
             ≡ record self.old { space = length self.old.bytes + count }) }

@@ -1,5 +1,6 @@
 -- The first number for which no book is given.
-use Rattle.std.proofs.Common.{◌≡◌, ◌≤◌, ◌<◌, ◌-◌, ◌⊎◌, inl, inr, ℕ, Bool, true, false, List, [], ◌∷◌, length, get_or, nat_eq, nat_lt, suc}
+use Rattle.std.proofs.Common.{◌≡◌, ◌≤◌, ◌<◌, ◌-◌, ◌⊎◌, inl, inr, ℕ, Bool, true, false, List, [], ◌∷◌, length, get_or}
+use Rattle.std.proofs.Common.{nat_eq, nat_lt, suc}
 use Rattle.std.proofs.Common.{None, Some, arith, ◌∙◌, ap, refl}
 use Rattle.std.proofs.lemmas.Bool.Decides.{nat_tests}
 use Rattle.share_catalog.specs.Billed.{is_accounted, first_book, last_book, Accounts, IsMissing, IsFirstMissing}

@@ -1,5 +1,6 @@
 -- Names of files are read from the bytes that spell them.
-use Rattle.std.proofs.Common.{◌≡◌, ◌<◌, ◌+◌, ◌-◌, ◌^◌, ℕ, zero, suc, List, [], ◌∷◌, ◌++◌, length, take, get_or, replicate}
+use Rattle.std.proofs.Common.{◌≡◌, ◌<◌, ◌+◌, ◌-◌, ◌^◌, ℕ, zero, suc, List, [], ◌∷◌, ◌++◌, length, take, get_or}
+use Rattle.std.proofs.Common.{replicate}
 use Rattle.std.proofs.Common.{Option, None, Some, decimal, arith, sym, ◌∙◌, ap, refl, max}
 use Rattle.std.proofs.Math.Seq.{take-suc}
 use Rattle.std.specs.Str.Parse.{AllDigits, digits_value}
@@ -43,7 +44,8 @@ value_of_padded n h =
     let k = 6 - length (decimal n) in
     (padded_digits k (decimal n) p.0.1, padded_value k (decimal n) ∙ p.1)
 
-spelled_pieces : (w : List ℕ) (ps : List (List ℕ)) (f : BookFile) → ps ≡ pieces_of 46 w → IsFile f → file_text f ≡ w → ps
+spelled_pieces : (w : List ℕ) (ps : List (List ℕ)) (f : BookFile) → ps ≡ pieces_of 46 w → IsFile f → file_text f ≡ w
+    → ps
     ≡ padded f.number ∷ ending f.kind ∷ []
 spelled_pieces w ps f e is q = e ∙ ap (pieces_of 46) (sym q) ∙ file_pieces f is
 

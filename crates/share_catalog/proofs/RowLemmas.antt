@@ -9,16 +9,19 @@ use Rattle.share_catalog.specs.Pieces.{pieces_of}
 use Rattle.share_catalog.specs.Reads.{IsSpelledByNone, BeginsWithNone}
 use Rattle.share_catalog.specs.Texts.{kind_text, closing_text, tariffs_text, is_hex_digit, IsDigest}
 use Rattle.share_catalog.specs.Texts.{IsNumber}
-use Rattle.share_catalog.specs.Rows.{IsRow, AreTotals, columns, time_columns, head_columns, total_columns, row_text, IsNoColumn, IsWrong}
+use Rattle.share_catalog.specs.Rows.{IsRow, AreTotals, columns, time_columns, head_columns, total_columns, row_text}
+use Rattle.share_catalog.specs.Rows.{IsNoColumn, IsWrong}
 use Rattle.share_catalog.specs.Rows.{ReadsRow}
 use Rattle.share_catalog.specs.declared.kinds.TextKind.{TextKind}
 use Rattle.share_catalog.specs.declared.kinds.TextKind.TheVariants.{Whole, Lengths}
 use Rattle.share_catalog.specs.declared.kinds.Closing.{Closing}
-use Rattle.share_catalog.specs.declared.kinds.Closing.TheVariants.{Spent, Period, Reload, Rotate, End as Ended, Cut, Bad}
+use Rattle.share_catalog.specs.declared.kinds.Closing.TheVariants.{Spent, Period, Reload, Rotate, End as Ended, Cut}
+use Rattle.share_catalog.specs.declared.kinds.Closing.TheVariants.{Bad}
 use Rattle.share_catalog.specs.declared.row.Row.{Row}
 use Rattle.share_catalog.specs.declared.row.Totals.{Totals}
 use Rattle.share_catalog.specs.declared.row.Column.{Column}
-use Rattle.share_catalog.specs.declared.row.Column.TheVariants.{Book, Kind, Opened, Closed, Why, Tariffs, Events, Packets}
+use Rattle.share_catalog.specs.declared.row.Column.TheVariants.{Book, Kind, Opened, Closed, Why, Tariffs, Events}
+use Rattle.share_catalog.specs.declared.row.Column.TheVariants.{Packets}
 use Rattle.share_catalog.specs.declared.row.Column.TheVariants.{Bytes, Units, Amount, Sha256, End}
 use Rattle.share_catalog.proofs.PieceLemmas.{NoByte, no_byte-decimal, pieces_of-join, join-pieces_of}
 use Rattle.share_catalog.proofs.TariffLemmas.{no_comma-tariffs}
@@ -86,7 +89,7 @@ columns_back r is =
       ),
     )
 
--- A piece that is none of a column
+-- A piece that is not a column
 
 get_after : (before rest : List (List ℕ)) → slice_get (before ++ rest) (length before) ≡ slice_get rest 0
 get_after [] rest = refl
@@ -123,7 +126,8 @@ no_total field count place before mid rest fits e long at lacks head six =
 spelled_columns : (bytes : List ℕ) (r : Row) → IsRow r → row_text r ≡ bytes → pieces_of 44 bytes ≡ columns r
 spelled_columns bytes r is e = ap (pieces_of 44) (sym e) ∙ columns_back r is
 
-not_there : (bytes : List ℕ) (place : ℕ) (text : Row → List ℕ) → ((r : Row) → slice_get (columns r) place ≡ Some (text r))
+not_there : (bytes : List ℕ) (place : ℕ) (text : Row → List ℕ)
+    → ((r : Row) → slice_get (columns r) place ≡ Some (text r))
     → IsNoColumn place text (pieces_of 44 bytes) → IsSpelledByNone Row row_text IsRow bytes
 not_there bytes place text has lacks = record {
   none = λ r is e. lacks.other r is (ap (λ ps. slice_get ps place) (spelled_columns bytes r is e) ∙ has r);

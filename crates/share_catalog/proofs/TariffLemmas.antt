@@ -1,6 +1,7 @@
 -- Tariffs are read from the text that spells them.
 use Rattle.std.proofs.Common.{◌≡◌, ◌≢◌, ◌<◌, ◌≤◌, ◌+◌, ◌^◌, ℕ, Bool, true, false, List, [], ◌∷◌, ◌++◌}
-use Rattle.std.proofs.Common.{length, map, nat_le, nat_eq, take, get_or, zero, suc, decimal, arith, sym, ◌∙◌, ap, refl, append_assoc, append-nil, length-append}
+use Rattle.std.proofs.Common.{length, map, nat_le, nat_eq, take, get_or, zero, suc, decimal, arith, sym, ◌∙◌, ap, refl}
+use Rattle.std.proofs.Common.{append_assoc, append-nil, length-append}
 use Rattle.std.specs.List.{join_with_byte, list_all, AllByRecursion}
 use Rattle.std.proofs.Math.Seq.{take-suc}
 use Rattle.std.specs.Str.Parse.{digits_value}
@@ -59,17 +60,20 @@ no_space [] h = tt
 no_space (t ∷ ts) h =
     let p = and_parts _ _ h in (no_byte-tariff 32 t (omega arith) p.0, no_space ts p.1)
 
-pub tariffs_pieces : (ts : List BookTariff) → AreTariffs ts → ts ≢ [] → pieces_of 32 (tariffs_text ts) ≡ map tariff_text ts
+pub tariffs_pieces : (ts : List BookTariff) → AreTariffs ts → ts ≢ []
+    → pieces_of 32 (tariffs_text ts) ≡ map tariff_text ts
 tariffs_pieces [] h some = absurd (some refl)
 tariffs_pieces (t ∷ ts) h some =
     let all = no_space (t ∷ ts) (and_parts _ _ h).1 in
     pieces_of-join 32 (tariff_text t) (map tariff_text ts) all.0 all.1
 
 -- all pieces are read
-pub read_whole : (w : List ℕ) (ts : List BookTariff) (left : List (List ℕ)) → pieces_of 32 w ≡ map tariff_text ts ++ left
+pub read_whole : (w : List ℕ) (ts : List BookTariff) (left : List (List ℕ))
+    → pieces_of 32 w ≡ map tariff_text ts ++ left
     → left ≡ [] → tariffs_text ts ≡ w
 read_whole w ts left e none =
-    let all : pieces_of 32 w ≡ map tariff_text ts = e ∙ ap (λ r. map tariff_text ts ++ r) none ∙ append-nil (map tariff_text ts) in
+    let all : pieces_of 32 w ≡ map tariff_text ts =
+    e ∙ ap (λ r. map tariff_text ts ++ r) none ∙ append-nil (map tariff_text ts) in
     ap (join_with_byte 32) (sym all) ∙ join-pieces_of 32 w
 
 some_tariffs : (w : List ℕ) (ts : List BookTariff) → w ≢ [] → tariffs_text ts ≡ w → ts ≢ []
@@ -120,7 +124,8 @@ join-snoc c w [] v = refl
 join-snoc c w (u ∷ us) v =
     ap (λ r. w ++ c ∷ r) (join-snoc c u us v) ∙ sym (append_assoc w (c ∷ join_with_byte c (u ∷ us)) (c ∷ v))
 
-map-snoc : (ts : List BookTariff) (t : BookTariff) → map tariff_text (ts ++ t ∷ []) ≡ map tariff_text ts ++ tariff_text t ∷ []
+map-snoc : (ts : List BookTariff) (t : BookTariff)
+    → map tariff_text (ts ++ t ∷ []) ≡ map tariff_text ts ++ tariff_text t ∷ []
 map-snoc [] t = refl
 map-snoc (s ∷ ts) t = ap (λ r. tariff_text s ∷ r) (map-snoc ts t)
 
@@ -155,7 +160,8 @@ same_number m n h k e =
     sym (decimal_is_IsNumeral m h).1 ∙ ap (digits_value 10) e ∙ (decimal_is_IsNumeral n k).1
 
 -- the pieces of a tariff that is spelled by these bytes
-spelled_pieces : (w : List ℕ) (ps : List (List ℕ)) (t : BookTariff) → ps ≡ pieces_of 47 w → IsTariff t → tariff_text t ≡ w
+spelled_pieces : (w : List ℕ) (ps : List (List ℕ)) (t : BookTariff) → ps ≡ pieces_of 47 w → IsTariff t
+    → tariff_text t ≡ w
     → ps ≡ decimal t.cell ∷ decimal t.overhead ∷ decimal t.price ∷ []
 spelled_pieces w ps t e h q = e ∙ ap (pieces_of 47) (sym q) ∙ tariff_pieces t h
 
@@ -271,4 +277,5 @@ no_comma_more t (u ∷ us) h =
 
 pub no_comma-tariffs : (ts : List BookTariff) → AreTariffs ts → NoByte 44 (tariffs_text ts)
 no_comma-tariffs [] h = tt
-no_comma-tariffs (t ∷ ts) h = no_comma_more t ts (and_parts (nat_le (length (t ∷ ts)) 8) (list_all is_tariff (t ∷ ts)) h).1
+no_comma-tariffs (t ∷ ts) h = no_comma_more t ts
+    (and_parts (nat_le (length (t ∷ ts)) 8) (list_all is_tariff (t ∷ ts)) h).1

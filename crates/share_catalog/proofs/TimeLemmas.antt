@@ -1,5 +1,6 @@
 -- Times are read from the bytes that spell them.
-use Rattle.std.proofs.Common.{◌≡◌, ◌<◌, ◌≤◌, ◌+◌, ◌*◌, ◌/◌, ◌%◌, ℕ, true, false, ◌&&◌, List, length, arith, sym, ◌∙◌, ap, refl, eqb}
+use Rattle.std.proofs.Common.{◌≡◌, ◌<◌, ◌≤◌, ◌+◌, ◌*◌, ◌/◌, ◌%◌, ℕ, true, false, ◌&&◌, List, length, arith, sym, ◌∙◌}
+use Rattle.std.proofs.Common.{ap, refl, eqb}
 use Rattle.std.specs.Prelude.{slice_index}
 use Rattle.std.proofs.lemmas.Bool.Decides.{nat_tests}
 use Rattle.share_catalog.specs.Reads.{IsSpelledByNone, Any}
@@ -17,7 +18,8 @@ two_back word at high low h l n few tens ones =
     let b = l (n % 10) (omega arith) ones in
     omega (arith, a, b)
 
-tens_of : (n : ℕ) → n < 10000 → ((n / 100 < 100) × (n % 100 < 100) × (n / 100 / 10 ≡ n / 1000) × (n % 100 / 10 ≡ n / 10 % 10)
+tens_of : (n : ℕ) → n < 10000 → ((n / 100 < 100) × (n % 100 < 100) × (n / 100 / 10 ≡ n / 1000)
+    × (n % 100 / 10 ≡ n / 10 % 10)
     × (n % 100 % 10 ≡ n % 10) × (n / 100 * 100 + n % 100 ≡ n))
 tens_of n few = (omega arith, omega arith, omega arith, omega arith, omega arith, omega arith)
 
@@ -54,14 +56,15 @@ are_small year month day hour minute second date clock =
       second_few = grind (arith, nat_tests);
     }
 
--- what is read of a time's bytes is its numbers
+-- the reading of a time's bytes is its numbers
 pub numbers_back : (t : Time) (word : List ℕ) (year month day hour minute second : ℕ) → time_text t ≡ word
     → IsFourAt word 0 year → IsTwoAt word 5 month → IsTwoAt word 8 day → IsTwoAt word 11 hour → IsTwoAt word 14 minute
     → IsTwoAt word 17 second → HasNumbers year month day hour minute second t
 unfolding time_text
 numbers_back t word year month day hour minute second e y mo d h mi s =
     let few = are_small t.year t.month t.day t.hour t.minute t.second t.date t.time_of_day in
-    let at : (i : ℕ) → slice_index word i ≡ slice_index (time_text t) i = λ i. ap (λ w. slice_index w i) (sym e) in record {
+    let at : (i : ℕ) → slice_index word i ≡ slice_index (time_text t) i =
+    λ i. ap (λ w. slice_index w i) (sym e) in record {
       year_is = sym (y t.year few.year_few (at 0) (at 1) (at 2) (at 3));
       month_is = sym (mo t.month few.month_few (at 5) (at 6));
       day_is = sym (d t.day few.day_few (at 8) (at 9));

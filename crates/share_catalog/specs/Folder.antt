@@ -1,4 +1,4 @@
--- What a start finds in a folder of books.
+-- The findings of a start in a folder of books.
 use Rattle.std.specs.Prelude.{◌≡◌, ◌≢◌, ◌≤◌, ◌<◌, ◌+◌, ℕ, List, [], ◌∷◌, length, max, slice_index}
 
 -- the greatest of these numbers, and 0 if there are none
@@ -6,7 +6,7 @@ abbrev pub greatest : List ℕ → ℕ
 greatest [] = 0
 greatest (n ∷ ns) = max n (greatest ns)
 
--- so many bytes are whole lines, and the bytes after them are part of one
+-- that many bytes are whole lines, and the bytes after them are part of one
 pub record IsWholeLines (text : List ℕ) (count : ℕ) : Type 0 where
   pub inside : count ≤ length text
   pub ends : (k : ℕ) → k + 1 ≡ count → slice_index text k ≡ 10

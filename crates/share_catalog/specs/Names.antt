@@ -15,7 +15,7 @@ ending Report = codes "report"
 ending Part = codes "part"
 ending Tariffs = codes "tariffs"
 
--- as many zeros as make six digits of so many
+-- the number of zeros that make six digits of that many
 abbrev pub zeros_before : ℕ → List ℕ
 zeros_before count = replicate (6 - count) 48
 

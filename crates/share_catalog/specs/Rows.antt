@@ -1,12 +1,15 @@
 -- The rows of `books.csv`: how they are spelled, and which column of other bytes is no row's.
-use Rattle.std.specs.Prelude.{◌≡◌, ◌≢◌, ◌<◌, ℕ, List, [], ◌∷◌, ◌++◌, Some, Result, MatchResult, length, slice_get, codes, decimal}
+use Rattle.std.specs.Prelude.{◌≡◌, ◌≢◌, ◌<◌, ℕ, List, [], ◌∷◌, ◌++◌, Some, Result, MatchResult, length, slice_get}
+use Rattle.std.specs.Prelude.{codes, decimal}
 use Rattle.std.specs.List.{join_with_byte}
-use Rattle.share_catalog.specs.Texts.{IsNumber, IsDigest, AreTariffs, kind_text, closing_text, tariffs_text, digest_text}
+use Rattle.share_catalog.specs.Texts.{IsNumber, IsDigest, AreTariffs, kind_text, closing_text, tariffs_text}
+use Rattle.share_catalog.specs.Texts.{digest_text}
 use Rattle.share_catalog.specs.Times.{time_text}
 use Rattle.share_catalog.specs.declared.row.Row.{Row}
 use Rattle.share_catalog.specs.declared.row.Totals.{Totals}
 use Rattle.share_catalog.specs.declared.row.Column.{Column}
-use Rattle.share_catalog.specs.declared.row.Column.TheVariants.{Book, Kind, Opened, Closed, Why, Tariffs, Events, Packets}
+use Rattle.share_catalog.specs.declared.row.Column.TheVariants.{Book, Kind, Opened, Closed, Why, Tariffs, Events}
+use Rattle.share_catalog.specs.declared.row.Column.TheVariants.{Packets}
 use Rattle.share_catalog.specs.declared.row.Column.TheVariants.{Bytes, Units, Amount, Sha256, End}
 
 -- Which values a row can have
@@ -47,7 +50,7 @@ columns r = head_columns r ++ total_columns r.totals ++ digest_text r.sha256 ∷
 abbrev pub row_text : Row → List ℕ
 row_text r = join_with_byte 44 (columns r)
 
--- What is wrong with other bytes
+-- The fault of other bytes
 
 -- the piece at this place is not what any row has there
 pub record IsNoColumn (place : ℕ) (text : Row → List ℕ) (pieces : List (List ℕ)) : Type 0 where

@@ -1,4 +1,4 @@
-//! What a bill checks of the books that `books.csv` has.
+//! The checks of a bill on the books that `books.csv` has.
 ghost use Rattle.std.specs.Prelude.{◌≡◌, ◌≤◌, ◌<◌, ◌&&◌, ◌==◌, [], length, slice_index, true, false, MatchOption};
 ghost use Rattle.std.specs.List.{list_any};
 ghost use Rattle.share_catalog.specs.Billed.{mismatch_of, is_bad, is_accounted, is_bad_book, IsFirstMissing, IsMissing};
@@ -32,8 +32,8 @@ pub fn compare(row: &Row, sha256: &Digest, units: u64, amount: u64) -> Option<Mi
     None
 }
 
-/// The least number from that of the first row to that of the last for which no book is given and no row says that its
-/// text is no run. `None` if there is no such number.
+/// The least number, from that of the first row to that of the last, without a given book. Numbers of rows whose text
+/// is not a run are passed over. `None` if there is no such number.
 pub fn first_missing(rows: &[Row], given: &[u64]) -> Option<u64>
     ensures { IsFirstMissing rows.now given.now result }
 {

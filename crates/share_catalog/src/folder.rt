@@ -1,4 +1,4 @@
-//! What a start finds in a folder of books.
+//! The findings of a start in a folder of books.
 ghost use Rattle.std.specs.Prelude.{◌≡◌, ◌+◌, ◌-◌, ◌^◌, max, MatchOption};
 ghost use Rattle.share_catalog.specs.Folder.{greatest, IsWholeLines};
 
@@ -29,7 +29,7 @@ fn larger(one: u64, other: u64) -> u64
     if one < other { other } else { one }
 }
 
-/// How many bytes the whole lines of a text have, with their line feeds. What follows them is a line that was cut.
+/// How many bytes the whole lines of a text have, with their line feeds. The bytes after them are a line that was cut.
 pub fn whole_lines(text: &[u8]) -> usize
     ensures { IsWholeLines text.now result }
 {

@@ -1,4 +1,4 @@
-//! What holds of every file of a folder. The function here does nothing: its contract is a law, and is proved.
+//! Laws of every file of a folder. The function here does nothing: its contract is a law, and is proved.
 ghost use Rattle.std.specs.Prelude.{◌≡◌};
 ghost use Rattle.share_catalog.specs.Names.{ending, file_text, IsFile};
 ghost use Rattle.share_catalog.specs.declared.names.BookFile.{BookFile};

@@ -14,7 +14,7 @@ const LEAST_DIGITS: usize = 6;
 /// The zeros in front of a short number.
 const ZEROS: [u8; LEAST_DIGITS] = [b'0'; LEAST_DIGITS];
 
-/// What a file of a book is.
+/// The kind of a file of a book.
 #[derive(Clone, Copy, Debug, PartialEq, Eq)]
 pub enum FileKind {
     /// The text of the book that is open.
@@ -101,7 +101,7 @@ pub fn file_name(file: BookFile) -> ShortText
     name
 }
 
-// The zeros in front of so many digits.
+// The zeros in front of that many digits.
 fn zeros(count: usize) -> &'static [u8]
     ensures zeros { result.now ≡ zeros_before count }
     ensures few { length result.now ≤ 6 }

@@ -21,14 +21,14 @@ pub(crate) fn read_number(word: &[u8]) -> Option<u64>
     }
 }
 
-/// Reads a number, the next piece. If that is none, the pieces are not to be read on.
+/// Reads a number, the next piece. If that is not one, the pieces are not to be read on.
 pub(crate) fn next_number<const SEPARATOR: u8>(pieces: &mut Fields<'_, SEPARATOR>) -> Option<u64>
     ensures { ReadsNext decimal IsNumber pieces.old pieces.new result }
 {
     read_number(pieces.next()?)
 }
 
-/// The value of digits, zeros in front of them included. Of other bytes it may be any.
+/// The value of digits, zeros in front of them included. It may be any number for other bytes.
 pub(crate) fn value_of(word: &[u8]) -> Option<u64>
     ensures { AllDigits 10 word.now → digits_value 10 word.now < 2 ^ 64 → result ≡ Some (digits_value 10 word.now) }
 {

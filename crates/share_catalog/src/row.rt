@@ -21,7 +21,7 @@ use crate::tariffs::{Tariffs, push_tariffs};
 use crate::text::ShortText;
 use crate::time::Time;
 
-/// What a book's events come to. A book whose text is no run has 0 in each.
+/// The figures of a book's events. A book whose text is not a run has 0 in each.
 #[derive(Clone, Copy, Debug, PartialEq, Eq)]
 pub struct Totals {
     pub events: u64,

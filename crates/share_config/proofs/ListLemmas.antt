@@ -8,7 +8,7 @@ use Rattle.toml.proofs.Views.{items_view-drop}
 use Rattle.share_config.specs.Reading.{Said, each, ◌>>=◌}
 use Rattle.share_config.specs.declared.fault.ConfigFault.{ConfigFault}
 
--- what was read, and what is said of the rest
+-- the reading, and that of the rest
 abbrev pub with_front : {A : Type 0} → List A → Said (List A) → Said (List A)
 with_front front (Ok bs) = Ok (front ++ bs)
 with_front front (Err e) = Err e

@@ -47,7 +47,7 @@ abbrev pub plan_of : List CurrencyView → List TenantView → Said PlanView
 plan_of currencies tenants =
     let p : PlanView = record { currencies = currencies; tenants = tenants } in plan_by p (plan_fault p)
 
--- what a document says
+-- the meaning of a document
 abbrev pub settings_of : Members → Said SettingsView
 settings_of all = do
   ms ← known place.File all

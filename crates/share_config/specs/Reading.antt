@@ -11,7 +11,7 @@ use Rattle.share_config.specs.declared.fault.Reason.TheVariants as reason
 use Rattle.share_config.specs.declared.fault.ConfigFault.{ConfigFault}
 use Rattle.share_config.specs.declared.fault.ConfigFault.TheVariants.{Unknown, Wrong}
 
--- what a file says, or its fault
+-- the settings of a file, or its fault
 abbrev pub Said : Type 0 → Type 0
 Said A = Result A ConfigFault
 
@@ -23,7 +23,7 @@ Err e >>= f = Err e
 abbrev pub wrong : {A : Type 0} → Place → Key → Reason → Said A
 wrong p k r = Err (Wrong p k r)
 
--- what a text says, if it says anything
+-- the meaning of a text, if it has one
 abbrev pub found : {A : Type 0} → Place → Key → Reason → Option A → Said A
 found p k r None = wrong p k r
 found p k r (Some a) = Ok a
@@ -87,7 +87,7 @@ known p ms = known_by p (unknown p ms) ms
 
 -- ---- Lists
 
--- what each item says, with the items numbered from n; or the fault of the first that has one
+-- the meaning of each item, with the items numbered from n; or the fault of the first that has one
 abbrev pub each : {A : Type 0} → (ℕ → Data → Said A) → ℕ → Items → Said (List A)
 each read n no_items = Ok []
 each read n (item d ds) = do

@@ -16,7 +16,7 @@ pub(crate) trait Entry: Drop + Sized {
     ghost use Rattle.share_config.specs.Reading.{Said};
     ghost use Rattle.share_config.specs.declared.key.Place.{Place};
 
-    /// What a value says that is the item of this number in a list of this table.
+    /// The meaning of a value that is the item of this number in a list of this table.
     ghost said: { Place → ℕ → Data → Said Self };
 
     fn read(alloc: Global, place: Place, number: usize, value: &Value) -> Result<Self, ConfigFault>

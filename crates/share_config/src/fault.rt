@@ -4,7 +4,7 @@ use share_gateway::PlanFault;
 use share_settings::Text;
 use thiserror::Error;
 
-/// What is wrong at a key.
+/// The fault at a key.
 #[derive(Clone, Copy, Debug, PartialEq, Eq, Error)]
 pub enum Reason {
     #[error("missing")]

@@ -121,7 +121,7 @@ fn folder(alloc: Global, table: &Table) -> Result<Text, ConfigFault>
     }
 }
 
-// What stands in the text of a book.
+// The content of the text of a book.
 fn book_text(table: &Table) -> Result<BookText, ConfigFault>
     ensures { result
         ≡ optional (value_in book_text_of reason.BookText) Lengths place.Books key.Text (table_view table.now) }

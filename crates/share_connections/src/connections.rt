@@ -22,7 +22,7 @@ const REST: u64 = 100;
 /// How many bytes a connection gives once the end has begun, at most.
 const LAST_BYTES: usize = 1 << 24;
 
-/// What a connection is for.
+/// The purpose of a connection.
 #[derive(Clone, Copy, Debug, PartialEq, Eq)]
 pub enum Kind {
     Control,
@@ -54,11 +54,15 @@ pub struct Connections {
     wire: Arc<Wire>,
     // Set when no more connections are accepted, and those that are open give only what has come.
     ending: Stop,
-    // Set when the link takes nothing any more.
+    // Set when the link has stopped taking offers.
     link_ended: Stop,
     pace: Pace,
     // Set when nothing is left to watch.
     over: Stop,
+    // Set when the loss of the uplink was printed.
+    loss_told: Stop,
+    // Why a connection could not be accepted.
+    accept_fault: Mutex<Option<io::Error>>,
     is_verbose: bool,
 }
 
@@ -102,6 +106,8 @@ impl Connections {
             link_ended: Stop::new(),
             pace,
             over: Stop::new(),
+            loss_told: Stop::new(),
+            accept_fault: Mutex::new(None),
             is_verbose,
         })
     }
@@ -132,7 +138,7 @@ impl Connections {
         self.ending.is_set()
     }
 
-    /// Whether the link takes nothing any more.
+    /// Whether the link has stopped taking offers.
     pub fn has_link_ended(&self) -> bool {
         self.link_ended.is_set()
     }
@@ -152,6 +158,18 @@ impl Connections {
             stream,
         })
         .is_ok()
+    }
+
+    /// A connection could not be accepted. Prints the reason, and keeps it.
+    pub fn not_accepted<R: Wait + Eprint>(&self, rt: &R, fault: io::Error) {
+        let reason = Reason(fault);
+        self.tell(rt, format_args!("cannot accept a connection: {reason}"));
+        *self.accept_fault.lock(rt) = Some(fault);
+    }
+
+    /// Why a connection could not be accepted, if one could not.
+    pub fn accept_fault<R: Wait>(&self, rt: &R) -> Option<io::Error> {
+        *self.accept_fault.lock(rt)
     }
 
     /// Removes a connection that is over.
@@ -177,7 +195,7 @@ impl Connections {
         }
     }
 
-    /// Ends the ingress connections, since the link takes nothing any more.
+    /// Ends the ingress connections, since the link has stopped taking offers.
     pub fn end_link<R: Wait>(&self, rt: &R) {
         self.link_ended.set();
         self.shut(rt, Kind::Ingress, Shutdown::Both);
@@ -231,7 +249,11 @@ impl Connections {
 
     // Prints that the uplink is lost, once.
     fn tell_loss<R: Eprint>(&self, rt: &R) {
-        if let Some(fault) = self.wire.take_fault() {
+        if self.loss_told.is_set() {
+            return;
+        }
+        if let Some(fault) = self.wire.fault() {
+            self.loss_told.set();
             let reason = Reason(fault);
             self.tell(rt, format_args!("the uplink is lost: {reason}"));
         }
@@ -318,8 +340,8 @@ where
     started.is_ok()
 }
 
-/// A reader of a connection. Once the end has begun it gives at most `LAST_BYTES` bytes more, since a socket that is
-/// shut down for reading still gives what comes later.
+/// A reader of a connection. Once the end has begun it gives at most `LAST_BYTES` bytes more. A socket that is shut
+/// down for reading still gives bytes that come later.
 #[derive(Drop)]
 pub struct ConnectionReader<'a> {
     pub stream: &'a TcpStream,

@@ -1,5 +1,6 @@
 //! The uplink: the connection to which the frames go.
 
+use share_locked::Stop;
 use std::alloc::{AllocError, Global};
 use std::io;
 use std::io::{ErrorKind, Read, Write};
@@ -21,18 +22,23 @@ const AWAY: usize = 4096;
 /// Stands for no fault, where the system's number of a fault would.
 const NO_FAULT: i32 = 0;
 
-/// Stands for a fault that has no number.
-const NO_NUMBER: i32 = -1;
+/// Stands for a call that took nothing, which has no number.
+const TOOK_NOTHING: i32 = -1;
 
-/// The connection, how many times a write call on it began or ended, which is odd during a call, and how many calls
-/// began since the last push.
+/// Stands for a call that waited until the connection was ended for it, which has none either.
+const TIMED_OUT: i32 = -2;
+
+/// The connection, and two counts. One is how many times a write call on it began or ended, which is odd during a call.
+/// The other is how many calls began since the last push.
 #[derive(Drop)]
 pub struct Wire {
     stream: TcpStream,
     steps: AtomicU64,
     busy: AtomicU64,
-    // The system's number of the fault of a write call that nobody took yet.
+    // The system's number of the fault of the write call that failed.
     fault: AtomicI32,
+    // Set when the connection is ended.
+    is_torn: Stop,
     watcher: Parker,
 }
 
@@ -49,6 +55,7 @@ impl Wire {
             steps: AtomicU64::new(0),
             busy: AtomicU64::new(0),
             fault: AtomicI32::new(NO_FAULT),
+            is_torn: Stop::new(),
             watcher: Parker::new(),
         }
     }
@@ -58,17 +65,23 @@ impl Wire {
         &self.watcher
     }
 
-    /// Why a write call failed, if one did and its fault was not taken yet.
-    pub fn take_fault(&self) -> Option<io::Error> {
-        match self.fault.swap(NO_FAULT, Ordering::SeqCst) {
+    /// Why a write call failed, if one did: `TimedOut` if the connection had been ended for it.
+    pub fn fault(&self) -> Option<io::Error> {
+        match self.fault.load(Ordering::SeqCst) {
             NO_FAULT => None,
-            NO_NUMBER => Some(io::Error::from(ErrorKind::WriteZero)),
+            TOOK_NOTHING => Some(io::Error::from(ErrorKind::WriteZero)),
+            TIMED_OUT => Some(io::Error::from(ErrorKind::TimedOut)),
             number => Some(io::Error::from_raw_os_error(number)),
         }
     }
 
     // A write call failed, so the link makes no further one.
     fn fail(&self, number: i32) {
+        let number = if self.is_torn.is_set() {
+            TIMED_OUT
+        } else {
+            number
+        };
         self.fault.store(number, Ordering::SeqCst);
         self.watcher.unpark();
     }
@@ -76,10 +89,10 @@ impl Wire {
     // Notes what a write call of some bytes answered.
     fn note(&self, written: &io::Result<usize>, length: usize) {
         match written {
-            Ok(0) if length > 0 => self.fail(NO_NUMBER),
+            Ok(0) if length > 0 => self.fail(TOOK_NOTHING),
             Ok(_) => (),
             Err(fault) if fault.kind() == ErrorKind::Interrupted => (),
-            Err(fault) => self.fail(fault.raw_os_error().unwrap_or(NO_NUMBER)),
+            Err(fault) => self.fail(fault.raw_os_error().unwrap_or(TOOK_NOTHING)),
         }
     }
 
@@ -88,7 +101,7 @@ impl Wire {
         self.steps.load(Ordering::SeqCst)
     }
 
-    /// Sends what the system holds back, since the link has nothing more to write for now.
+    /// Sends the bytes that the system holds back, since the link has nothing more to write at this moment.
     pub fn push(&self) {
         if self.busy.swap(0, Ordering::SeqCst) > 1 {
             let _ = self.stream.set_nodelay(true);
@@ -110,10 +123,11 @@ impl Wire {
 
     /// Ends the connection, and with it a write call that waits.
     pub fn tear(&self) {
+        self.is_torn.set();
         let _ = self.stream.shutdown(Shutdown::Both);
     }
 
-    /// Tells the peer that nothing more is sent.
+    /// Shuts the stream down for writing, so the peer sees its end.
     pub fn end_writing(&self) {
         let _ = self.stream.shutdown(Shutdown::Write);
     }

@@ -1,2 +1,2 @@
-mod AttendsLemmas
-mod RequestsLemmas
+mod AttendingLemmas
+mod RequestLemmas

@@ -1,4 +1,4 @@
--- What is done at a control connection: its lines are answered one after the other.
+-- The service of a control connection: its lines are answered one after the other.
 use Rattle.std.specs.Prelude.{◌≡◌, ℕ, Option, None, Some, List, [], ◌∷◌, ◌++◌}
 use Rattle.std.specs.Io.KnownBytes.{Appends}
 use Rattle.share_locked.specs.Views.{ClerkView}
@@ -17,7 +17,7 @@ use Rattle.share_control.specs.declared.attending.How.TheVariants.{End, ReadFaul
 use Rattle.share_control.specs.declared.requests.Request.{Request}
 use Rattle.share_control.specs.declared.requests.Request.TheVariants.{NoPlace}
 
--- what a line asks for; one that is too long has no place
+-- the request of a line; one that is too long has no place
 abbrev pub request_at : Option (List ℕ) → Request
 request_at (Some line) = request_in line
 request_at None = NoPlace

@@ -33,7 +33,7 @@ abbrev pub request_of : Result Line Refusal → Request
 request_of (Ok l) = request_by l
 request_of (Err refusal) = NoPlace
 
--- what the bytes of a line ask for; bytes that spell no line, or one out of range, have no place either
+-- the request in the bytes of a line; bytes that spell no line, or one out of range, have no place either
 abbrev pub request_in : List ℕ → Request
 request_in bytes = request_of (reading Two bytes)
 
@@ -51,17 +51,19 @@ abbrev pub said_text : Said → List ℕ
 said_text (SaysReply reply) = control_reply_text reply
 said_text (SaysReport text) = text.items
 
--- What a request does to a link and its clerk, and what the link says. A change is a command of this clerk, and what is
--- said its reply. A report is that of this link as it is, or there was no memory for it; it changes nothing.
+-- The effect of a request on a link and its clerk, and the answer of the link. A change is a command of this clerk,
+-- and what is said its reply. A report is that of this link as it is, or there was no memory for it; it changes
+-- nothing.
 abbrev pub Obeys : {W : Type 0} → LockedView W → ClerkView → Request → Said → LockedView W → ClerkView → Type 0
-Obeys old before (AsksChange c) (SaysReply reply) new after = (number : ℕ) × CommandMade old before c number reply new after
+Obeys old before (AsksChange c) (SaysReply reply) new after =
+    (number : ℕ) × CommandMade old before c number reply new after
 Obeys old before (AsksChange c) (SaysReport text) new after = ⊥
 Obeys old before AsksReport (SaysReply reply) new after = (reply ≡ Refused NoMemory) × (new ≡ old) × (after ≡ before)
 Obeys old before AsksReport (SaysReport text) new after =
     (text.items ≡ report old.recorder.link.live) × (new ≡ old) × (after ≡ before)
 Obeys old before NoPlace said new after = ⊥
 
--- the clerk may have got room for a receipt, and then the request was obeyed in one hold of the lock
+-- the clerk may have got room for a receipt, and then the request was obeyed with the lock taken once
 pub record ObeyedInHold (W : Type 0) (before : ClerkView) (request : Request) (said : Said) (after : ClerkView) : Type 0
   where
     pub room : ℕ
@@ -69,8 +71,8 @@ pub record ObeyedInHold (W : Type 0) (before : ClerkView) (request : Request) (s
     pub left : LockedView W
     pub obeyed : Obeys held (with_room before room) request said left after
 
--- What is said to a request. To a change: the reply to its command, or that there was no memory for a receipt, and no
--- command was made. To a report: the report. To all else: Syntax, without a hold of the lock.
+-- The answer to a request. To a change: the reply to its command, or that there was no memory for a receipt, and no
+-- command was made. To a report: the report. To all others: Syntax, without the lock.
 abbrev pub IsSaidTo : (W : Type 0) → ClerkView → Request → Said → ClerkView → Type 0
 IsSaidTo W before (AsksChange c) said after =
     ObeyedInHold W before (AsksChange c) said after ⊎ ((said ≡ SaysReply (Refused NoMemory)) × (after ≡ before))

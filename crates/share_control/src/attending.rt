@@ -37,7 +37,7 @@ pub struct Attended<L: LinkBrand> {
 /// A writer of answers, which go out when they are flushed or there is no room for one more.
 type Output<O> = PatientWriter<PlainWriter<BufWriter<O>>>;
 
-// What the next line asks for, if it came whole.
+// The request of the next line, if it came whole.
 fn next_request<I: TellingReader + Drop>(
     alloc: Global,
     input: &mut IncomingLines<I>,
@@ -123,7 +123,7 @@ fn converse<
 }
 
 /// Answers the lines of a control connection, by this clerk, until the connection ends or an answer cannot be written.
-/// What came after the last line feed is dropped.
+/// Bytes after the last line feed are dropped.
 pub fn attend<
     W: TellingWriter,
     S: Rates,

@@ -1,4 +1,4 @@
-//! What is done at a control connection: its lines are answered one after the other.
+//! The service of a control connection: its lines are answered one after the other.
 #![tactic(auto)]
 
 mod attending;

@@ -1,4 +1,4 @@
-//! What the lines of a control connection ask for, and what they are answered.
+//! Requests in the lines of a control connection, and their answers.
 ghost use Rattle.std.specs.Prelude.{◌≡◌, ℕ, List};
 ghost use Rattle.share_model.specs.io.Printing.{WritesText};
 ghost use Rattle.share_control.specs.Requests.{request_of, request_in, said_text, IsReady, Obeys, ObeyedInHold};
@@ -11,7 +11,7 @@ use share_script::{read_line, write_reply};
 use std::alloc::Global;
 use std::sync::Wait;
 
-/// What a line of a control connection asks for.
+/// The request of a line of a control connection.
 #[derive(Clone, Copy, Debug, PartialEq, Eq)]
 pub enum Request {
     /// A change of the funding or of the flows.
@@ -22,7 +22,7 @@ pub enum Request {
     NoPlace,
 }
 
-/// What a link says to a request.
+/// The answer of a link to a request.
 #[derive(Drop)]
 enum Said {
     /// The reply to a command, or a refusal.
@@ -31,7 +31,7 @@ enum Said {
     Report(Vec<u8>),
 }
 
-// What a line asks for, from how it was read.
+// The request of a line, from the way it was read.
 fn request_of(line: &Result<Line, Refusal>) -> Request
     ensures { result ≡ request_of line.now }
 {
@@ -42,7 +42,7 @@ fn request_of(line: &Result<Line, Refusal>) -> Request
     }
 }
 
-// What the bytes of a line ask for.
+// The request in the bytes of a line.
 pub(crate) fn request_in(alloc: Global, bytes: &[u8]) -> Request
     ensures { result ≡ request_in bytes.now }
 {
@@ -73,7 +73,7 @@ fn obey<W: TellingWriter, S: Rates, L: LinkBrand>(
     }
 }
 
-// Obeys a request in one hold of the lock.
+// Obeys a request with the lock taken once.
 fn obey_in_hold<W: TellingWriter, S: Rates, L: LinkBrand, R: Wait>(
     rt: &R,
     alloc: Global,
@@ -87,7 +87,7 @@ fn obey_in_hold<W: TellingWriter, S: Rates, L: LinkBrand, R: Wait>(
     obey(alloc, &mut port.lock(rt), clerk, request)
 }
 
-// Makes a command in one hold of the lock, after room for its receipt was made.
+// Makes a command with the lock taken once, after room for its receipt was made.
 fn change<W: TellingWriter, S: Rates, L: LinkBrand, R: Wait>(
     rt: &R,
     alloc: Global,

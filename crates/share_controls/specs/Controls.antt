@@ -1,4 +1,4 @@
--- What a contract sees of a control connection, and what its calls do to that.
+-- The view of a control connection in contracts, and the effects of its calls.
 use Rattle.std.specs.Prelude.{◌≡◌, ◌++◌, ℕ, Bool, true, false, not, ◌&&◌, ◌||◌, ◌==◌, nat_le, List, [], length}
 use Rattle.share_script.specs.Lines.{IsNextLine}
 use Rattle.share_script.specs.declared.lines.Incoming.TheVariants as found
@@ -7,7 +7,7 @@ use Rattle.share_controls.specs.declared.connection.Front.TheVariants.{Line, Ove
 
 -- the token of its events; what is at the front of its lines, and when the last line came there, or the connection was
 -- made, in nanoseconds; the line that was given last, and the bytes that came after it; the replies that were not
--- taken; what its socket may be ready for; whether no line comes any more; and whether nothing goes out any more
+-- taken; what its socket may be ready for; whether its last line came; and whether its last reply went out
 pub record ControlView : Type 0 where
   pub token : ℕ
   pub front : Front
@@ -52,7 +52,7 @@ Seeks a Nothing line rest = Comes a rest
 Seeks a Line line rest = (b : List ℕ) × Comes a b × IsNextLine b found.Line line rest
 Seeks a OverLong line rest = (b : List ℕ) × Comes a b × IsNextLine b found.OverLong line rest
 
--- what came to the front, where nothing was
+-- the line that came to the front, if there was none
 abbrev pub arrived : ℕ → ControlView → Front → ControlView
 arrived now c Nothing = c
 arrived now c Line = record c { front = Line; last = now }
@@ -74,7 +74,7 @@ FrontIs Nothing c now answer d = NextFront c now answer d
 FrontIs Line c now answer d = (answer ≡ Line) × (d ≡ c)
 FrontIs OverLong c now answer d = (answer ≡ OverLong) × (d ≡ c)
 
--- so many bytes of replies wait that no line is read
+-- that many bytes of replies wait that no line is read
 abbrev pub is_full : ControlView → Bool
 is_full c = nat_le 65536 (length c.replies)
 
@@ -108,6 +108,6 @@ takes c = c.reads && not c.has_ended && not (is_full c) && is_nothing c.front
 abbrev pub is_busy : ControlView → Bool
 is_busy c = not c.is_broken && (sends c || takes c)
 
--- no line comes any more, each is passed, and all replies were taken
+-- the last line came, each line is passed, and all replies were taken
 abbrev pub is_done : ControlView → Bool
 is_done c = c.has_ended && not (has_replies c) && is_nothing c.front

@@ -17,7 +17,7 @@ use std::time::Instant;
 /// How many calls on the socket are made at a time.
 const CALLS: u32 = 16;
 
-/// What is at the front of the lines of a connection.
+/// The front of the lines of a connection.
 #[derive(Clone, Copy, Debug, PartialEq, Eq)]
 pub enum Front {
     /// A line, which is lent by `line` until it is passed.
@@ -42,7 +42,7 @@ pub struct ControlConnection {
     last_line: Instant,
     is_readable: bool,
     is_writable: bool,
-    // Whether no line comes any more, and whether no reply goes out any more.
+    // Whether the last line came, and whether the last reply went out.
     has_ended: bool,
     is_broken: bool,
 }
@@ -239,7 +239,7 @@ impl ControlConnection {
         Front::Nothing
     }
 
-    // The next line that came, or else reads once. `None` if bytes came.
+    // The next line that came, and otherwise reads once. `None` if bytes came.
     fn step(&mut self) -> Option<Front>
         ensures found { IfSome result (λ front. Seeks self.old.ahead front self.new.line self.new.ahead) }
         ensures came { IfNone result (Comes self.old.ahead self.new.ahead) }

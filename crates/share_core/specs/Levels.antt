@@ -4,7 +4,7 @@ use Rattle.share_model.specs.funding.Graph.{Graph}
 use Rattle.share_model.specs.link.Live.{tickets_of_all}
 use Rattle.share_model.specs.stride.Moves.{Stride, client}
 use Rattle.share_model.specs.stride.Level.{HasTickets}
-use Rattle.share_core.specs.Held.{IfFound}
+use Rattle.share_core.specs.Found.{IfFound}
 
 -- the tickets of the open flows stand in front, in order of opening
 abbrev pub AreTicketsOf : List ℕ → Graph → Type 0

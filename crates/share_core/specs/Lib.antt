@@ -1,4 +1,4 @@
-pub mod Held
+pub mod Found
 pub mod Lent
 pub mod Levels
 pub mod Life

@@ -5,7 +5,7 @@ ghost use Rattle.std.specs.Set.{remove_key};
 ghost use Rattle.share_model.specs.link.Tariff.{rate_at, rate_of, units_of};
 ghost use Rattle.share_model.specs.link.Books.{is_book_of, new_book, account_of, tariff_of, units_due, with_units};
 ghost use Rattle.share_model.specs.link.Books.{books_with_units, is_held, with_hold, books_with_hold};
-ghost use Rattle.share_core.specs.Held.{IfFound};
+ghost use Rattle.share_core.specs.Found.{IfFound};
 
 use crate::{MAX_FLOWS, MAX_FRAME};
 use share_base::FlowNo;
@@ -71,7 +71,7 @@ impl Books {
         }
     }
 
-    /// The account of a flow, and 0 where it is not open.
+    /// The account of a flow, and 0 if it is not open.
     pub fn account(&self, flow: FlowNo) -> u64
         ensures { result ≡ account_of self.now flow }
     {

@@ -61,8 +61,8 @@ impl<W, S: Rates> Model for Engine<W, S> {
 }
 
 impl<W: Drop, S: Rates + Drop> Engine<W, S> {
-    /// A new link of version 1 over this writer, with a life of 1 to 2^24 events. Refusals, in order: `Range` where the
-    /// life is none of these, `NoMemory` where a growth was refused; the shelf and the writer are dropped then.
+    /// A new link of version 1 over this writer, with a life of 1 to 2^24 events. Refusals, in order: `Range` if the
+    /// life is not in that range, `NoMemory` if a growth was refused; the shelf and the writer are dropped then.
     pub fn new(alloc: Global, shelf: S, life: u64, writer: W) -> Result<Engine<W, S>, Refusal>
         ensures ok { IfOk result (λ e.
             (e ≡ record { life = life; rates = S.rates shelf; live = empty_link One; writer = writer })
@@ -129,7 +129,7 @@ impl<W, S: Rates> Engine<W, S> {
     }
 
     /// The account of an open flow, below 2^54: the price of its tariff for each unit that its frames were charged.
-    /// `None` where no open flow has this number.
+    /// `None` if no open flow has this number.
     pub fn account(&self, flow: FlowNo) -> Option<u64>
         ensures account { result
             ≡ option_map (λ b. b.account) (find (is_book_of flow) self.now.live.books) }
@@ -138,7 +138,7 @@ impl<W, S: Rates> Engine<W, S> {
         self.link.account(flow)
     }
 
-    /// Whether an open flow is held. `None` where no open flow has this number.
+    /// Whether an open flow is held. `None` if no open flow has this number.
     pub fn held(&self, flow: FlowNo) -> Option<bool>
         ensures { result ≡ option_map (λ b. b.held) (find (is_book_of flow) self.now.live.books) }
     {
@@ -153,15 +153,15 @@ impl<W, S: Rates> Engine<W, S> {
     }
 
     /// The tickets of an open flow: what funds it while it is active, at most 2^20, and 0 while it is idle or held.
-    /// `None` where no open flow has this number.
+    /// `None` if no open flow has this number.
     pub fn tickets(&self, flow: FlowNo) -> Option<u32>
         ensures { result ≡ tickets_at self.now flow }
     {
         self.link.tickets(flow)
     }
 
-    /// The position of an open flow in the queue: whether it competes, its tickets and stride (the last ones where it
-    /// does not compete), and its pass or, where it does not compete, its remain. `None` where no open flow has this
+    /// The position of an open flow in the queue: whether it competes, its tickets and stride (the last ones if it
+    /// does not compete), and its pass or, if it does not compete, its remain. `None` if no open flow has this
     /// number.
     pub fn position(&self, flow: FlowNo) -> Option<Position>
         ensures { result ≡ position_at self.now flow }
@@ -199,15 +199,15 @@ impl<W, S: Rates> Engine<W, S> {
         }
     }
 
-    /// What the flows share: the tickets of those that compete, the global pass and the clock at its last update, and
-    /// the clock, in units.
+    /// The values that the flows share: the tickets of those that compete, the global pass and the clock at its
+    /// last update, and the clock, in units.
     pub fn global(&self) -> GlobalPart
         ensures { result ≡ global_part self.now.live.queue }
     {
         self.link.global()
     }
 
-    /// What the link counted, and what it holds.
+    /// The counts of the link, and its contents.
     pub fn totals(&self) -> Totals
         ensures { result ≡ totals self.now.live }
     {
@@ -215,7 +215,7 @@ impl<W, S: Rates> Engine<W, S> {
     }
 
     /// The n-th open flow, from 0, in order of opening: its number, its name, and how many packets wait in its buffer,
-    /// a torn one not counted. `None` where fewer flows are open.
+    /// a torn one not counted. `None` if fewer flows are open.
     pub fn row(&self, n: u32) -> Option<Row>
         ensures { result ≡ row self.now.live n }
     {
@@ -291,10 +291,10 @@ impl<W, S: Rates> Engine<W, S> {
     }
 
     /// Offers the writer the next bytes of the frame that is sent, at most `most` bytes, which is at least 1, in one
-    /// write call, and its answer decides: `Wrote` where it accepted some, `Again` where it was interrupted, which
-    /// changes nothing, and else `Torn`, a fault that breaks the link for good. Nothing is offered, and the answer is
-    /// `Spent` where the life is spent, `Broken` where the link is broken, and `Idle` where there is nothing to send,
-    /// in this order. It takes no memory.
+    /// write call, and its answer decides: `Wrote` if it accepted some, `Again` if it was interrupted, which
+    /// changes nothing, and otherwise `Torn`, a fault that breaks the link for good. Nothing is offered, and
+    /// the answer is `Spent` if the life is spent, `Broken` if the link is broken, and `Idle` if there is
+    /// nothing to send, in this order. It takes no memory.
     pub fn turn(&mut self, most: u32) -> Turn
     where
         W: TellingWriter,
@@ -313,7 +313,7 @@ impl<W, S: Rates> Engine<W, S> {
         self.link.turn(writer, most)
     }
 
-    /// The caller declares that the writer failed, and the writer is not called: `Torn`, one event, where there is a
+    /// The caller declares that the writer failed, and the writer is not called: `Torn`, one event, if there is a
     /// frame to send. Else nothing changes: `Spent`, `Broken` or `Idle`, in this order. It takes no memory.
     pub fn tear(&mut self) -> Turn
         ensures { TearCall self.old result self.new }

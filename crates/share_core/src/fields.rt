@@ -1,4 +1,4 @@
-//! What the types of commands and arrivals say of their fields: they are those that a line can spell.
+//! The bounds that the types of commands and arrivals give their fields: they are those that a line can spell.
 ghost use Rattle.std.specs.Prelude.{◌≡◌, true};
 ghost use Rattle.std.specs.List.{list_all};
 ghost use Rattle.share_base.specs.declared.version.Version.TheVariants.{Two};

@@ -1,4 +1,4 @@
-//! What a link holds besides its writer: the ledger, the queue, the buffers, the books and the counts.
+//! The parts of a link besides its writer: the ledger, the queue, the buffers, the books and the counts.
 ghost use Rattle.std.specs.Prelude.{◌≡◌, ◌<◌, ◌≤◌, ◌^◌, false, IfOk, IfErr, None};
 ghost use Rattle.share_base.specs.Refusal.{IsRefused};
 ghost use Rattle.share_base.specs.declared.command.Reply.TheVariants.{Refused};
@@ -112,8 +112,8 @@ impl<S: Rates> Model for Link<S> {
 }
 
 impl<S: Rates + Drop> Link<S> {
-    /// A new link of version 1, with a life of 1 to 2^24 events. `Range` where the life is none of these, `NoMemory`
-    /// where a growth was refused; the shelf is dropped then.
+    /// A new link of version 1, with a life of 1 to 2^24 events. `Range` if the life is not in that range, `NoMemory`
+    /// if a growth was refused; the shelf is dropped then.
     pub fn new(alloc: Global, shelf: S, life: u64) -> Result<Link<S>, Refusal>
         ensures ok { IfOk result (λ e.
             (e ≡ record { life = life; rates = S.rates shelf; live = empty_link One; writer = tt })

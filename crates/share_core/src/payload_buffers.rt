@@ -10,7 +10,7 @@ ghost use Rattle.share_model.specs.io.Told.{Fits};
 ghost use Rattle.share_flows.specs.Limit.{limit_refusal};
 ghost use Rattle.share_flows.specs.Places.{Stands};
 
-use share_base::{Body, FlowNo, Refusal};
+use share_base::{Body, FlowNo, Refusal, ZeroFrame};
 use share_flows::{Buffers, Place};
 use share_model::{Answer, Backlog, TellingWriter};
 use std::alloc::Global;
@@ -21,6 +21,8 @@ use std::marker::Model;
 #[derive(Drop)]
 pub struct PayloadBuffers {
     buffers: Buffers,
+    // Where frames are shown of payloads that are zeros.
+    frame: ZeroFrame,
 }
 
 impl Model for PayloadBuffers {
@@ -39,7 +41,10 @@ impl PayloadBuffers {
         ensures refused { IfErr result (λ e. e ≡ NoMemory) }
     {
         let buffers = Buffers::new(alloc)?;
-        Ok(PayloadBuffers { buffers })
+        Ok(PayloadBuffers {
+            buffers,
+            frame: ZeroFrame::new(),
+        })
     }
 
     /// Opens the buffer of a flow that has none, with all its room.
@@ -154,7 +159,7 @@ impl PayloadBuffers {
 
     /// Offers a writer the next bytes of the head packet at a place with this header before it, of which `out` bytes
     /// are out: at most `most` bytes, in one call. They are one slice of the buffer's own memory, header and payload,
-    /// and nothing is copied but the header.
+    /// and nothing is copied but the header. A payload of zeros has no memory there, and is shown in the frame.
     pub(crate) fn offer_at<W: TellingWriter>(
         &mut self,
         place: &Place,
@@ -175,7 +180,7 @@ impl PayloadBuffers {
         self.buffers.stamp_at(place, header);
         match self.buffers.head_at(place) {
             None => unreachable!(),
-            Some((_, body)) => offer(writer, body.framed(), out, most),
+            Some((_, body)) => offer(writer, body.framed_in(&mut self.frame), out, most),
         }
     }
 }

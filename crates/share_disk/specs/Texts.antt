@@ -1,4 +1,4 @@
--- What the files of a book say of its text.
+-- The facts about the text of a book in its files.
 use Rattle.std.specs.Prelude.{Bool, true, false, ◌&&◌, Option, None, Some}
 use Rattle.share_archive.specs.declared.plan.BookState.{BookState}
 use Rattle.share_archive.specs.declared.plan.BookText.{BookText}
@@ -8,9 +8,11 @@ use Rattle.share_archive.specs.declared.plan.RowState.TheVariants.{Missing, Cut,
 use Rattle.share_catalog.specs.declared.kinds.TextKind.{TextKind}
 use Rattle.share_catalog.specs.declared.kinds.TextKind.TheVariants.{Whole as WholeText, Lengths as LengthsText}
 use Rattle.share_catalog.specs.declared.kinds.Closing.{Closing}
-use Rattle.share_catalog.specs.declared.kinds.Closing.TheVariants.{Spent, Period, Reload, Rotate, End, Cut as CutBook, Bad as BadBook}
+use Rattle.share_catalog.specs.declared.kinds.Closing.TheVariants.{Spent, Period, Reload, Rotate, End, Cut as CutBook}
+use Rattle.share_catalog.specs.declared.kinds.Closing.TheVariants.{Bad as BadBook}
 use Rattle.share_catalog.specs.declared.names.FileKind.{FileKind}
-use Rattle.share_catalog.specs.declared.names.FileKind.TheVariants.{Open as OpenFile, Audit, Lengths, Bad as BadFile, Report, Part, Tariffs}
+use Rattle.share_catalog.specs.declared.names.FileKind.TheVariants.{Open as OpenFile, Audit, Lengths, Bad as BadFile}
+use Rattle.share_catalog.specs.declared.names.FileKind.TheVariants.{Report, Part, Tariffs}
 use Rattle.share_disk.specs.declared.book_files.TextRead.{TextRead}
 use Rattle.share_disk.specs.declared.book_files.TextRead.TheVariants.{Headless as ReadHeadless, NoRun, Run}
 
@@ -40,7 +42,7 @@ abbrev pub closed_kind : TextKind → FileKind
 closed_kind WholeText = Audit
 closed_kind LengthsText = Lengths
 
--- what is known of the text of a book that was closed for this reason
+-- the facts about the text of a book that was closed for this reason
 abbrev pub read_of : Closing → TextRead
 read_of Spent = Run
 read_of Period = Run

@@ -1,8 +1,8 @@
-//! What a book comes to.
+//! The figures of a book.
 
 use share_catalog::Row;
 
-/// What is written of a book at its end.
+/// The lines that are written of a book at its end.
 #[derive(Drop)]
 pub struct BookEnd {
     /// Its row. The digest is that of its text.

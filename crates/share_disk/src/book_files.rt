@@ -13,7 +13,7 @@ use std::fs::{File, Files};
 use std::io::ErrorKind;
 use std::{fs, io};
 
-/// What is known of a text before its files are looked at.
+/// The facts about a text before its files are looked at.
 #[derive(Clone, Copy, Debug, PartialEq, Eq)]
 pub(crate) enum TextRead {
     /// It has no whole first line.
@@ -31,7 +31,7 @@ pub(crate) struct OneBook<'r, 'f, 'e, R> {
     pub(crate) folder: &'f Folder,
     pub(crate) number: u64,
     pub(crate) read: TextRead,
-    /// What is written of the book, if that is known.
+    /// The row of the book, if it is known.
     pub(crate) end: Option<&'e BookEnd>,
 }
 
@@ -81,17 +81,10 @@ impl<'r, 'f, 'e, R: Files<File = File>> OneBook<'r, 'f, 'e, R> {
 
     // The row of the book, as `books.csv` has it.
     fn row_state(&self) -> io::Result<RowState> {
-        let csv = BooksCsv::read(self.rt, self.alloc, self.folder)?;
-        if csv.is_cut() {
-            return Ok(RowState::Cut);
-        }
-        match csv.row_of(self.number) {
-            None => Ok(RowState::Missing),
-            Some(_) => Ok(RowState::Whole),
-        }
+        BooksCsv::open(self.rt, self.alloc, self.folder)?.row_state(self.number)
     }
 
-    /// What the folder has of the book, whose row is like this.
+    /// The files of the book in the folder, whose row is like this.
     pub(crate) fn state_with(&self, row: RowState) -> io::Result<BookState> {
         Ok(BookState {
             text: text_state(self.text_kind()?, self.read),
@@ -117,7 +110,7 @@ impl<'r, 'f, 'e, R: Files<File = File>> OneBook<'r, 'f, 'e, R> {
         Ok(None)
     }
 
-    // What is written of the book.
+    // The row of the book.
     fn end(&self) -> io::Result<&'e BookEnd> {
         match self.end {
             Some(end) => Ok(end),

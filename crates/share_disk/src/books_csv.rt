@@ -1,13 +1,14 @@
 //! The rows of `books.csv`.
 
-use crate::files::read_if_there;
+use crate::files::open_if_there;
 use crate::folder::Folder;
-use memchr::memchr;
-use share_catalog::{Row, header_line, read_row, row_line, whole_lines};
+use crate::measure::whole_length;
+use share_archive::RowState;
+use share_catalog::{Row, header_line, read_row, row_line};
 use std::alloc::Global;
 use std::fs::{File, Files, OpenOptions};
 use std::io;
-use std::io::Write;
+use std::io::{BufRead, BufReader, Write};
 
 /// The name of the file of the rows.
 const NAME: &str = "books.csv";
@@ -15,122 +16,149 @@ const NAME: &str = "books.csv";
 /// Why the rows were not read.
 #[derive(Clone, Copy, Debug)]
 pub(crate) enum NotRead {
-    /// Memory was refused.
-    NoMemory,
+    /// A call of the system failed, or memory was refused.
+    Failed(io::Error),
     /// The line of this number, counted from 1, is neither the names of the columns nor a row.
     Line(u64),
 }
 
-/// What `books.csv` has.
+impl From<io::Error> for NotRead {
+    fn from(fault: io::Error) -> NotRead {
+        NotRead::Failed(fault)
+    }
+}
+
+// What comes next in the file.
+#[derive(Clone, Copy, Debug, PartialEq, Eq)]
+enum Line {
+    Whole,
+    // A last line without its line feed.
+    Cut,
+    // No line.
+    End,
+}
+
+/// `books.csv`, read line by line. One line is in memory, so that a close takes no more memory after many books.
 #[derive(Drop)]
 pub(crate) struct BooksCsv {
-    bytes: Vec<u8>,
+    // `None` if there is no file: then there are no lines.
+    reader: Option<BufReader<File>>,
+    // The last line that was read, without its line feed.
+    line: Vec<u8>,
 }
 
 impl BooksCsv {
-    /// Reads the file. A file that is not there has no rows.
-    pub(crate) fn read<R: Files<File = File>>(
+    /// Opens the file. A file that is not there has no rows.
+    pub(crate) fn open<R: Files<File = File>>(
         rt: &R,
         alloc: Global,
         folder: &Folder,
     ) -> io::Result<BooksCsv> {
         let path = folder.path_to(alloc, NAME)?;
-        match read_if_there(rt, alloc, path.as_str())? {
-            Some(bytes) => Ok(BooksCsv { bytes }),
-            None => Ok(BooksCsv {
-                bytes: Vec::new(alloc),
-            }),
+        let reader = match open_if_there(rt, path.as_str())? {
+            Some(file) => Some(BufReader::new(alloc, file)?),
+            None => None,
+        };
+        Ok(BooksCsv {
+            reader,
+            line: Vec::new(alloc),
+        })
+    }
+
+    // Reads the next line.
+    fn read_line(&mut self) -> io::Result<Line> {
+        self.line.clear();
+        let Some(reader) = &mut self.reader else {
+            return Ok(Line::End);
+        };
+        if reader.read_until(b'\n', &mut self.line)? == 0 {
+            return Ok(Line::End);
+        }
+        if self.line.as_slice().ends_with(b"\n") {
+            let _ = self.line.pop();
+            Ok(Line::Whole)
+        } else {
+            Ok(Line::Cut)
         }
     }
 
-    // Its whole lines, with their line feeds.
-    fn whole(&self) -> &[u8] {
-        let bytes = self.bytes.as_slice();
-        &bytes[..whole_lines(bytes)]
+    // The row of the last line that was read, if it is one.
+    fn row(&self) -> Option<Row> {
+        read_row(self.line.as_slice()).ok()
     }
 
-    /// Whether the last line has no line feed.
-    pub(crate) fn is_cut(&self) -> bool {
-        self.whole().len() < self.bytes.len()
+    // Whether the last line that was read has the names of the columns.
+    fn is_header(&self) -> bool {
+        let header = header_line();
+        self.line.as_slice() == &header[..header.len() - 1]
     }
 
-    /// The numbers of its books, in order of their rows.
-    pub(crate) fn numbers(&self, alloc: Global) -> Result<Vec<u64>, NotRead> {
-        let mut rows = Rows::of(self.whole());
+    /// The numbers of its books, in order of their rows. A cut last line is left out.
+    pub(crate) fn numbers(self, alloc: Global) -> Result<Vec<u64>, NotRead> {
+        let mut csv = self;
         let mut numbers = Vec::new(alloc);
-        if !rows.has_header() {
-            return Err(NotRead::Line(1));
-        }
-        for line in 2..u64::MAX {
-            match rows.next() {
-                None => return Ok(numbers),
-                Some(None) => return Err(NotRead::Line(line)),
-                Some(Some(row)) => {
-                    if numbers.push(row.book).is_err() {
-                        return Err(NotRead::NoMemory);
-                    }
-                }
+        for line in 1..u64::MAX {
+            if csv.read_line()? != Line::Whole {
+                return Ok(numbers);
+            }
+            match csv.row() {
+                Some(row) if line > 1 => numbers.push(row.book).map_err(io::Error::from)?,
+                None if line == 1 && csv.is_header() => (),
+                _ => return Err(NotRead::Line(line)),
             }
         }
         Ok(numbers)
     }
 
     /// The row of a book, if there is one.
-    pub(crate) fn row_of(&self, number: u64) -> Option<Row> {
-        let mut rows = Rows::of(self.whole());
-        let _ = rows.has_header();
+    pub(crate) fn row_of(self, number: u64) -> io::Result<Option<Row>> {
+        let mut csv = self;
         for _ in 0..u64::MAX {
-            if let Some(row) = rows.next()? {
+            if csv.read_line()? != Line::Whole {
+                return Ok(None);
+            }
+            if let Some(row) = csv.row() {
                 if row.book == number {
-                    return Some(row);
+                    return Ok(Some(row));
                 }
             }
         }
-        None
+        Ok(None)
+    }
+
+    /// Whether the file has the row of a book, or a last line that is cut.
+    pub(crate) fn row_state(self, number: u64) -> io::Result<RowState> {
+        let mut csv = self;
+        let mut state = RowState::Missing;
+        for _ in 0..u64::MAX {
+            match csv.read_line()? {
+                Line::Whole => {
+                    if csv.row().is_some_and(|row| row.book == number) {
+                        state = RowState::Whole;
+                    }
+                }
+                Line::Cut => return Ok(RowState::Cut),
+                Line::End => return Ok(state),
+            }
+        }
+        Ok(state)
     }
 }
 
-// The lines of a text that are not passed.
-#[derive(Clone, Copy)]
-struct Rows<'a> {
-    left: &'a [u8],
-}
-
-impl<'a> Rows<'a> {
-    fn of(text: &'a [u8]) -> Rows<'a> {
-        Rows { left: text }
-    }
-
-    // Passes the names of the columns. They are missing only if there is no row either.
-    fn has_header(&mut self) -> bool {
-        match self.next_line() {
-            None => true,
-            Some(line) => is_header(line),
+/// Whether the last line has no line feed.
+pub(crate) fn is_cut<R: Files<File = File>>(
+    rt: &R,
+    alloc: Global,
+    folder: &Folder,
+) -> io::Result<bool> {
+    let path = folder.path_to(alloc, NAME)?;
+    match open_if_there(rt, path.as_str())? {
+        None => Ok(false),
+        Some(file) => {
+            let mut file = file;
+            Ok(whole_length(&mut file)? < file.metadata()?.len())
         }
     }
-
-    // The next line, without its line feed.
-    fn next_line(&mut self) -> Option<&'a [u8]> {
-        let left = self.left;
-        let at = memchr(b'\n', left)?;
-        self.left = &left[at + 1..];
-        Some(&left[..at])
-    }
-
-    // The row of the next line, or `None` if that is no row.
-    fn next(&mut self) -> Option<Option<Row>> {
-        let line = self.next_line()?;
-        match read_row(line) {
-            Ok(row) => Some(Some(row)),
-            Err(_) => Some(None),
-        }
-    }
-}
-
-// Whether a line, without its line feed, has the names of the columns.
-fn is_header(line: &[u8]) -> bool {
-    let header = header_line();
-    line == &header[..header.len() - 1]
 }
 
 /// Cuts off the last line if it has no line feed.
@@ -139,10 +167,13 @@ pub(crate) fn cut_row<R: Files<File = File>>(
     alloc: Global,
     folder: &Folder,
 ) -> io::Result<()> {
-    let whole = BooksCsv::read(rt, alloc, folder)?.whole().len();
     let path = folder.path_to(alloc, NAME)?;
-    let file = OpenOptions::new().write(true).open(rt, path.as_str())?;
-    file.set_len(whole as u64)?;
+    let mut file = OpenOptions::new()
+        .read(true)
+        .write(true)
+        .open(rt, path.as_str())?;
+    let whole = whole_length(&mut file)?;
+    file.set_len(whole)?;
     file.sync_all()
 }
 

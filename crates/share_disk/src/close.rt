@@ -14,9 +14,9 @@ use std::io;
 use std::io::ErrorKind;
 
 impl Folder {
-    /// Closes a book: its text is made durable and takes the name of a closed book, its report and its row are written,
-    /// and the file of its tariffs is removed, each durable before the next. If that fails, it may be called again, and
-    /// goes on where it failed.
+    /// Closes a book. Its text is made durable and takes the name of a closed book. Then its report and its row are
+    /// written, and the file of its tariffs is removed. Each step is durable before the next. If that fails, it may be
+    /// called again, and goes on where it failed.
     pub fn close<R: Files<File = File>>(
         &self,
         rt: &R,
@@ -48,7 +48,7 @@ pub(crate) fn settle_files<R: Files<File = File>>(
     }
 }
 
-/// What is known of the text of a book that was closed for this reason.
+/// The facts about the text of a book that was closed for this reason.
 pub(crate) fn read_of(why: Closing) -> TextRead
     ensures { result ≡ read_of why }
 {

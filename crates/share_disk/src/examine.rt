@@ -1,4 +1,4 @@
-//! What a text that was found in the folder is.
+//! The state of a text that was found in the folder.
 
 use crate::book_end::BookEnd;
 use crate::books_csv::BooksCsv;
@@ -28,7 +28,7 @@ pub enum NoRun {
     Line { number: u64, wrong: Wrong },
 }
 
-/// What a text comes to.
+/// The outcome of a text.
 #[derive(Drop)]
 pub(crate) enum Examined {
     /// An open text without a whole first line.
@@ -99,7 +99,7 @@ fn cut_text(file: &mut File) -> io::Result<u64> {
     Ok(whole)
 }
 
-// The tariffs of a book: those of its file, or else of its row. None if neither has any.
+// The tariffs of a book: those of its file, and otherwise of its row. None if neither has any.
 fn tariffs_of<R: Files<File = File>>(
     rt: &R,
     alloc: Global,
@@ -112,7 +112,7 @@ fn tariffs_of<R: Files<File = File>>(
             return Ok(tariffs);
         }
     }
-    match BooksCsv::read(rt, alloc, folder)?.row_of(number) {
+    match BooksCsv::open(rt, alloc, folder)?.row_of(number)? {
         Some(row) => Ok(row.tariffs),
         None => Ok(Tariffs::none()),
     }
@@ -126,7 +126,7 @@ fn tariffs_in(bytes: &[u8]) -> Option<Tariffs> {
     }
 }
 
-// What the run of a text comes to.
+// The outcome of the run of a text.
 #[derive(Drop)]
 struct Ran {
     kind: TextKind,

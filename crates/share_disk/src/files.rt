@@ -61,17 +61,25 @@ pub(crate) fn rename_new<R: Files>(rt: &R, from: &str, to: &str) -> io::Result<(
     fs::rename(rt, from, to)
 }
 
+/// Opens a file. `None` if there is no file.
+pub(crate) fn open_if_there<R: Files<File = File>>(rt: &R, path: &str) -> io::Result<Option<File>> {
+    match fs::open(rt, path) {
+        Ok(file) => Ok(Some(file)),
+        Err(fault) if fault.kind() == ErrorKind::NotFound => Ok(None),
+        Err(fault) => Err(fault),
+    }
+}
+
 /// The bytes of a file. `None` if there is no file.
 pub(crate) fn read_if_there<R: Files<File = File>>(
     rt: &R,
     alloc: Global,
     path: &str,
 ) -> io::Result<Option<Vec<u8>>> {
-    let mut file = match fs::open(rt, path) {
-        Ok(file) => file,
-        Err(fault) if fault.kind() == ErrorKind::NotFound => return Ok(None),
-        Err(fault) => return Err(fault),
+    let Some(file) = open_if_there(rt, path)? else {
+        return Ok(None);
     };
+    let mut file = file;
     let mut bytes = Vec::new(alloc);
     file.read_to_end(&mut bytes)?;
     Ok(Some(bytes))

@@ -1,10 +1,10 @@
-//! What a start does with the books that it finds.
+//! The recovery of the books that a start finds.
 ghost use Rattle.std.specs.Prelude.{◌≡◌};
 ghost use Rattle.share_disk.specs.Texts.{is_complete};
 
 use crate::book_end::BookEnd;
 use crate::book_files::{OneBook, TextRead};
-use crate::books_csv::{BooksCsv, NotRead, cut_row};
+use crate::books_csv::{BooksCsv, NotRead, cut_row, is_cut};
 use crate::close::{read_of, settle_files};
 use crate::examine::{Examined, NoRun, examine};
 use crate::folder::Folder;
@@ -15,7 +15,7 @@ use std::fs::{File, Files};
 use std::io::ErrorKind;
 use std::{fs, io};
 
-/// What was done with a book.
+/// The outcome of the recovery of a book.
 #[derive(Clone, Copy, Debug)]
 pub enum Recovery {
     /// Its open text was run, and the book was closed.
@@ -35,7 +35,7 @@ pub struct RecoveredBook {
     pub recovery: Recovery,
 }
 
-/// What a recovery did.
+/// The outcome of a recovery.
 #[derive(Drop)]
 pub struct Recovered {
     /// The number of the next book.
@@ -72,24 +72,24 @@ impl From<AllocError> for NotRecovered {
 impl From<NotRead> for NotRecovered {
     fn from(reason: NotRead) -> NotRecovered {
         match reason {
-            NotRead::NoMemory => NotRecovered::Failed(io::Error::from(ErrorKind::OutOfMemory)),
+            NotRead::Failed(fault) => NotRecovered::Failed(fault),
             NotRead::Line(number) => NotRecovered::Line(number),
         }
     }
 }
 
 impl Folder {
-    /// Brings each book of the folder to what it comes to: an open text is cut after its last line feed, run and
-    /// closed, a closed book gets the report and the row that it lacks, and a text that is no run is set aside.
+    /// Brings each book of the folder to its final state. An open text is cut after its last line feed, run and closed.
+    /// A closed book gets the report and the row that it lacks. A text that is not a run is set aside.
     pub fn recover<R: Files<File = File>>(
         &self,
         rt: &R,
         alloc: Global,
     ) -> Result<Recovered, NotRecovered> {
-        if BooksCsv::read(rt, alloc, self)?.is_cut() {
+        if is_cut(rt, alloc, self)? {
             cut_row(rt, alloc, self)?;
         }
-        let mut rows = BooksCsv::read(rt, alloc, self)?.numbers(alloc)?;
+        let mut rows = BooksCsv::open(rt, alloc, self)?.numbers(alloc)?;
         rows.sort_unstable();
         let files = self.numbers(rt, alloc)?;
         let books = self.recover_all(rt, alloc, files.as_slice(), rows.as_slice())?;
@@ -227,7 +227,7 @@ fn is_complete(state: BookState) -> bool
     }
 }
 
-// What was done with a book whose text is no run for this reason, if there is one.
+// The outcome for a book whose text is not a run for this reason, if there is one.
 fn recovery_of(text: BookText, fault: Option<NoRun>) -> Recovery {
     match fault {
         Some(fault) => Recovery::SetAside(fault),

@@ -6,7 +6,7 @@ use share_catalog::Totals;
 use share_core::{Engine, MAX_FLOWS};
 use share_model::Rates;
 
-/// What the events of a book come to: the frames that were written whole, their bytes, the clock, and the sum of the
+/// The figures of a book's events: the frames that were written whole, their bytes, the clock, and the sum of the
 /// accounts.
 pub fn book_totals<W, S: Rates>(engine: &Engine<W, S>) -> Totals
     ensures events { result.events ≡ engine.now.live.counts.events }

@@ -1,5 +1,5 @@
-pub mod DeliveriesLemmas
-pub mod FillsLemmas
+pub mod DeliveryLemmas
+pub mod FillLemmas
 pub mod OutgoingLemmas
 pub mod PacketLemmas
 pub mod RecordLemmas

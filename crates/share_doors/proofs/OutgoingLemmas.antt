@@ -1,4 +1,4 @@
--- What is left of the records that a connection is given, call by call.
+-- The rest of the records that a connection is given, call by call.
 use Rattle.std.proofs.Common.{◌≡◌, ◌+◌, ◌<◌, ℕ, zero, suc, List, [], true, drop, length, ◌∙◌, ap, sym}
 use Rattle.std.proofs.Common.{arith}
 use Rattle.std.proofs.lemmas.List.{drop-drop, drop_all}

@@ -1,4 +1,4 @@
--- What becomes of the packets of a packet port, call by call.
+-- The outcome of the packets of a packet port, call by call.
 use Rattle.std.proofs.Common.{◌≡◌, ℕ, Bool, true, false, length, refl, ◌∙◌, ap, sym, subst, if◌then◌else◌}
 use Rattle.share_base.specs.Body.{is_payload_length}
 use Rattle.share_model.specs.funding.Graph.{NameBytes}
@@ -17,7 +17,7 @@ reads_one n answer old new is count more =
     by_length true in_range = (count, ap is_payload_length count ∙ in_range, more)
     by_length false in_range = (ap is_payload_length count ∙ in_range, more)
 
--- what came of a payload that was read
+-- the outcome of a payload that was read
 pub port_gives : (name : NameBytes) (n : ℕ) (answer : Came) (old new : ReaderView) (before after : Audited)
     → ReadsOne old (Packet n) new → PortTakes name new.packet before answer after
     → PortGives name old before answer new after

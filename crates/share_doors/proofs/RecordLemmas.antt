@@ -1,4 +1,4 @@
--- What becomes of the records of a connection, call by call.
+-- The outcome of the records of a connection, call by call.
 use Rattle.std.proofs.Common.{◌≡◌, ◌≤◌, ◌<◌, ◌-◌, ℕ, List, ◌++◌, [], ◌∷◌, refl, ◌∙◌, ap, sym, subst, min, take, length}
 use Rattle.std.proofs.Common.{append_assoc, append-nil, arith}
 use Rattle.std.proofs.lemmas.List.{take_all}
@@ -47,7 +47,7 @@ cuts_first a b c lent same held gives = record {
   count = ap length (sym same);
 }
 
--- what came of a payload that was cut
+-- the outcome of a payload that was cut
 pub passes_payload : (name : NameBytes) (n : ℕ) (a c : RecordsView) (before after : Audited) (answer : Came)
     → CutsFirst n a c → GivesPayload name c.payload before answer after → PassesRecords name a before answer c after
 passes_payload name n a c before after (Packet m) cut took = record {
@@ -63,7 +63,7 @@ passes_payload name n a c before after More cut took = absurd took
 passes_payload name n a c before after (Over why) cut took =
     subst (λ (x : ClosedWhy). EndsWith x a c) (sym took) tt
 
--- what is held begins with no record
+-- the held bytes begin with no record
 pub ends_bad : (a b c : RecordsView) → HoldsMore a b → CutsRecord b Bad c → EndsWith Malformed a c
 ends_bad a b c held cut =
     subst (λ (x : RecordsView). HoldsMore a x × IsNoRecord x) (sym cut.1) (held, cut.0)

@@ -1,4 +1,4 @@
--- What a contract sees of a door.
+-- The view of a door in contracts.
 use Rattle.std.specs.Prelude.{ℕ, ◌+◌, ◌-◌, ◌^◌, min}
 use Rattle.share_model.specs.funding.Graph.{NameBytes}
 

@@ -1,4 +1,4 @@
--- What a door counts of what its connections and its packet ports give a book.
+-- The counts of a door, by the records and packets that its connections and its packet ports give a book.
 use Rattle.std.specs.Prelude.{ℕ}
 use Rattle.share_book.specs.Audited.{Audited}
 use Rattle.share_doors.specs.Door.{DoorView, counted, dropped_one, read_one}

@@ -1,4 +1,4 @@
--- What becomes of the packets of a packet port.
+-- The outcome of the packets of a packet port.
 use Rattle.std.specs.Prelude.{◌≡◌, ℕ, true, false, List, length, if◌then◌else◌}
 use Rattle.share_base.specs.Body.{is_payload_length}
 use Rattle.share_model.specs.funding.Graph.{NameBytes}
@@ -35,7 +35,7 @@ ReadsPacket old came.Over new = ReadsNone old new
 abbrev pub came_of : ℕ → Came
 came_of n = if is_payload_length n then Packet n else Dropped
 
--- a packet of n bytes that is a payload was read, or one that is none, or no packet
+-- a packet of n bytes that is a payload was read, or one that is not, or no packet
 abbrev pub ReadsOne : ReaderView → Came → ReaderView → Type 0
 ReadsOne old (Packet n) new =
     (length new.packet ≡ n) × (is_payload_length (length new.packet) ≡ true) × ReadsMore old new

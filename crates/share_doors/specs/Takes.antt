@@ -1,4 +1,4 @@
--- What the connections of a tenant do to a book.
+-- The effects of the connections of a tenant on a book.
 use Rattle.std.specs.Prelude.{◌≡◌, ◌≢◌, ◌⊎◌, ◌++◌, [], ℕ, Bool, not, ◌&&◌, List, length}
 use Rattle.share_model.specs.funding.Graph.{NameBytes}
 use Rattle.share_model.specs.ingress.Records.{IsBad, record_of}
@@ -65,7 +65,7 @@ pub record HoldsMore (old new : RecordsView) : Type 0 where
   pub bytes : new.bytes ≡ old.bytes ++ came
   pub name : new.name ≡ old.name
 
--- bytes came, and no whole record is held, nor anything that is none
+-- bytes came, and no whole record is held, nor bytes that are not a record
 pub record HoldsPart (old new : RecordsView) : Type 0 where
   pub holds : HoldsMore old new
   pub part : NeedsMore new.bytes
@@ -119,7 +119,7 @@ EndsWith (Failed kind) old new = HoldsPart old new
 EndsWith NoMemory old new = Unit {0}
 EndsWith Asked old new = ⊥
 
--- what becomes of the records of a connection that is asked for a packet
+-- the outcome of the records of a connection that is asked for a packet
 abbrev pub PassesRecords : NameBytes → RecordsView → Audited → Came → RecordsView → Audited → Type 0
 PassesRecords name old before (Packet n) new after = GivesRecord name n old before new after
 PassesRecords name old before Dropped new after = ⊥
@@ -127,7 +127,7 @@ PassesRecords name old before Nothing new after = HoldsPart old new
 PassesRecords name old before More new after = HoldsMore old new
 PassesRecords name old before (Over why) new after = EndsWith why old new
 
--- what a search for the next record of a connection comes to
+-- the result of a search for the next record of a connection
 abbrev pub FindsRecord : RecordsView → Came → RecordsView → Type 0
 FindsRecord old (Packet n) new = CutsFirst n old new
 FindsRecord old Dropped new = ⊥
@@ -135,7 +135,7 @@ FindsRecord old Nothing new = HoldsPart old new
 FindsRecord old More new = HoldsMore old new
 FindsRecord old (Over why) new = EndsWith why old new
 
--- what becomes of the records of a connection whose next packet is dropped
+-- the outcome of the records of a connection whose next packet is dropped
 abbrev pub DropsRecord : RecordsView → Came → RecordsView → Type 0
 DropsRecord old (Packet n) new = ⊥
 DropsRecord old Dropped new = (n : ℕ) × CutsFirst n old new

@@ -1,10 +1,10 @@
-//! What is done with all connections of a tenant.
+//! The calls on all connections of a tenant.
 
 use crate::packet_port::PacketPort;
 use crate::sender::{ClosedWhy, Sender};
 use slab::Slab;
 
-/// What a look at the connections found.
+/// The findings of a look at the connections.
 #[derive(Clone, Copy, Debug)]
 pub(crate) enum Looked {
     /// The key of one that is over.
@@ -15,7 +15,7 @@ pub(crate) enum Looked {
     Nothing,
 }
 
-/// Looks for a connection that is over, also one that has hung up.
+/// Looks for a connection that is over, including one that has hung up.
 pub(crate) fn look_over(senders: &mut Slab<Sender>) -> Looked {
     let mut found = Looked::Nothing;
     'keys: for key in 0..senders.capacity() {

@@ -26,7 +26,7 @@ const WAITING: u32 = 4096;
 /// How many connections a port of a tenant has at most at the same time.
 pub const MAX_SENDERS: usize = 64;
 
-/// What came of a call that fills the buffer of a tenant.
+/// The outcome of a call that fills the buffer of a tenant.
 #[derive(Clone, Copy, Debug, PartialEq, Eq)]
 pub enum Filled {
     /// No more packets are at hand before a socket is ready again.
@@ -37,9 +37,9 @@ pub enum Filled {
     More,
 }
 
-/// The door of a tenant: its connections and its packet ports. A contract sees the tenant and its flow, how much was
-/// taken, how many packets of packet ports were read and how many were dropped, and how many were given to deliver and
-/// how often one was lost.
+/// The door of a tenant: its connections and its packet ports. A contract sees the tenant and its flow, and how much
+/// was taken. It sees how many packets of packet ports were read and how many were dropped, how many were given to
+/// deliver, and how often one was lost.
 pub struct Door {
     tenant: Name,
     flow: FlowNo,
@@ -444,7 +444,7 @@ impl Door {
         self.may_have_closed = true;
     }
 
-    /// Removes a packet port that goes to another tenant, or is gone. What waits in its socket is dropped.
+    /// Removes a packet port that goes to another tenant, or is gone. Packets that wait in its socket are dropped.
     pub fn remove_port(&mut self, key: usize) -> Option<PacketPort>
         ensures { Drops self.old self.new }
     {
@@ -504,7 +504,7 @@ impl Door {
         self.dropped = self.dropped.saturating_add(1);
     }
 
-    // Counts a packet whose payload has so many bytes.
+    // Counts a packet whose payload has that many bytes.
     fn count(&mut self, bytes: usize)
         ensures { self.new ≡ counted bytes self.old }
     {

@@ -52,7 +52,7 @@ impl HeldRecords {
         self.held += self.records.feed(piece);
     }
 
-    /// What the bytes begin with. A record is taken away, and its payload is lent by `payload`.
+    /// The front of the bytes. A record is taken away, and its payload is lent by `payload`.
     pub(crate) fn next(&mut self) -> Cut
         ensures { CutsRecord self.old result self.new }
     {

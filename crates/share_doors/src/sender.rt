@@ -49,7 +49,7 @@ pub enum ClosedWhy {
 /// The answer of a connection or a packet port that was asked for a packet.
 #[derive(Clone, Copy, Debug, PartialEq, Eq)]
 pub enum Came {
-    /// A packet, which the book took. Its payload has so many bytes.
+    /// A packet, which the book took. Its payload has that many bytes.
     Packet(usize),
     /// A packet that is dropped: it is no payload, or finds no memory.
     Dropped,
@@ -162,7 +162,7 @@ impl Sender {
         }
     }
 
-    /// What is reported of it once it is closed, if it is over.
+    /// The report on it once it is closed, if it is over.
     pub fn closed(&self) -> Option<ClosedSender> {
         let why = self.over?;
         Some(ClosedSender {
@@ -313,7 +313,7 @@ impl Sender {
     }
 
     /// Gives it a packet as a record of the tenant, unless it has not taken all of the record before. Returns whether
-    /// the record was begun. What is left of it is kept, and goes before all else.
+    /// the record was begun. Its rest is kept, and goes before all others.
     pub fn deliver(&mut self, tenant: Name, payload: &[u8]) -> bool
         ensures given { self.new.given ≡ one_more self.old.given }
         ensures sends { Sends tenant payload.now self.old.outgoing result self.new.outgoing }

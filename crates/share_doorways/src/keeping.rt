@@ -1,4 +1,4 @@
-//! What becomes of ports and doors when the file was read anew.
+//! Ports and doors when the file was read anew.
 
 use crate::doorways::Doorways;
 use crate::ports::{Opening, PortPlace, remove_file};
@@ -149,7 +149,7 @@ impl Doorways {
         self.set_flow(flow, None);
     }
 
-    /// Removes a port: nothing comes by it any more, and its connections are closed.
+    /// Removes a port: no more bytes come by it, and its connections are closed.
     pub fn remove_port<R: Files>(
         &mut self,
         rt: &R,

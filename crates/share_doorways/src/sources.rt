@@ -1,10 +1,10 @@
-//! What the events of a token are about.
+//! The sources of the events of a token.
 
 use mio::Token;
 use slab::Slab;
 use std::alloc::Global;
 
-/// What an event is about.
+/// The source of an event.
 #[derive(Clone, Copy, Debug, PartialEq, Eq)]
 pub enum Source {
     Uplink,
@@ -52,7 +52,7 @@ impl Sources {
         }
     }
 
-    /// What the events of a token are about.
+    /// The sources of the events of a token.
     pub fn get(&self, token: Token) -> Option<Source> {
         self.all.get(token.0).copied()
     }

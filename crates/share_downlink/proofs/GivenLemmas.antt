@@ -1,10 +1,10 @@
--- What is given of the frames of a connection, call by call.
+-- The part of the frames of a connection that is given, call by call.
 use Rattle.std.proofs.Common.{◌≡◌, ◌<◌, ℕ, ◌+◌, Bool, List, [], ◌∷◌, ◌++◌, length, arith, refl, ◌∙◌, ap, sym, subst}
 use Rattle.std.proofs.lemmas.List.{append_assoc, append-nil, length-append}
 use Rattle.share_base.specs.declared.version.Version.TheVariants.{Two}
 use Rattle.share_gateway.specs.Frames.{Framed, GivesFrame, framed_bytes}
-use Rattle.share_model.proofs.lemmas.link.FrameLaws.{length-frame}
-use Rattle.share_model.proofs.lemmas.lists.Laws.{each-append, each-one}
+use Rattle.share_model.proofs.lemmas.link.FrameLemmas.{length-frame}
+use Rattle.share_model.proofs.lemmas.lists.FirstItemLemmas.{each-append, each-one}
 use Rattle.share_model.specs.link.Frame.{FitsFrame, Packet, frame}
 use Rattle.share_downlink.specs.Connection.{ComesMore, FirstGives, FirstNone, FirstOne}
 use Rattle.share_downlink.specs.declared.connection.First.{First}
@@ -86,7 +86,8 @@ pub passes_cut : {T : Type 0} (delivers : T → ℕ → List ℕ → Bool → T 
 passes_cut {T} delivers t u v c d e i j k passes cuts = record {
   came = passes.came;
   packets = passes.packets ++ cuts.packets;
-  good = each-append (λ (g : Framed). FitsFrame Two g.tariff g.packet) passes.packets cuts.packets passes.good cuts.good;
+  good = each-append (λ (g : Framed). FitsFrame Two g.tariff g.packet) passes.packets cuts.packets passes.good
+      cuts.good;
   given = gives_more delivers t u c d passes.packets passes.given v e cuts.packets cuts.given;
   bytes = passes.bytes ∙ ap (λ (x : List ℕ). framed_bytes passes.packets ++ x) cuts.bytes
       ∙ sym (append_assoc (framed_bytes passes.packets) (framed_bytes cuts.packets) k.bytes)

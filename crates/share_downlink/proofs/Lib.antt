@@ -1,2 +1,2 @@
-pub mod DatagramsLemmas
+pub mod DatagramLemmas
 pub mod GivenLemmas

@@ -1,4 +1,4 @@
--- What comes of a connection.
+-- The outcome of a connection.
 use Rattle.std.specs.Prelude.{◌≡◌, ◌≢◌, ◌⊎◌, ℕ, Bool, true, false, List, [], ◌++◌, Option, None, Some, Result, Ok, Err}
 use Rattle.std.specs.declared.net.SocketAddr.{SocketAddr}
 use Rattle.share_base.specs.declared.version.Version.TheVariants.{Two}
@@ -26,7 +26,7 @@ abbrev pub ended : ClosedWhy → Option ClosedWhy → Option ClosedWhy
 ended why None = Some why
 ended why (Some before) = Some before
 
--- what is reported of a connection, if it is over
+-- the report on a connection, if it is over
 abbrev pub closed_of : ℕ → SocketAddr → Option ClosedWhy → Option ClosedConnection
 closed_of token from None = None
 closed_of token from (Some why) = Some (record { token = token; from = from; why = why })
@@ -55,7 +55,7 @@ EndsRead (BadFrame offset field) i = ⊥
 EndsRead Replaced i = ⊥
 EndsRead Crowded i = ⊥
 
--- what a read comes to: bytes, or none and why
+-- the outcome of a read: bytes, or none and why
 abbrev pub Reads : IncomingView → Result Bool ClosedWhy → IncomingView → Type 0
 Reads old (Ok more) new = ComesMore old new
 Reads old (Err why) new = (new ≡ old) × EndsRead why old

@@ -1,4 +1,4 @@
--- What is given of the frames that come, and what is counted of them.
+-- The packets that are given of the frames that come, and the counts of them.
 use Rattle.std.specs.Prelude.{◌≡◌, ℕ, ◌+◌, ◌-◌, ◌^◌, min, Bool, true, false, List, [], ◌∷◌, ◌++◌, length}
 use Rattle.share_base.specs.declared.version.Version.TheVariants.{Two}
 use Rattle.share_gateway.specs.Frames.{Framed, framed_bytes}
@@ -48,8 +48,8 @@ abbrev pub offset_after : ℕ → List Framed → ℕ
 offset_after offset [] = offset
 offset_after offset (f ∷ fs) = offset_after (capped (offset + frame_size f.packet.payload)) fs
 
--- what a contract sees of the frames of a connection: the bytes of its stream that were not given, the payload that was
--- cut last, and where in the stream these bytes begin
+-- the view of the frames of a connection in contracts: the bytes of its stream that were not given, the payload that
+-- was cut last, and where in the stream these bytes begin
 pub record IncomingView : Type 0 where
   pub bytes : List ℕ
   pub payload : List ℕ

@@ -1,4 +1,4 @@
--- What is done with the frame in front of a connection's bytes.
+-- The treatment of the frame in front of a connection's bytes.
 use Rattle.std.specs.Prelude.{◌≡◌, ℕ, ◌+◌, Bool, List}
 use Rattle.share_base.specs.declared.version.Version.TheVariants.{Two}
 use Rattle.share_frame.specs.Reading.{IsFirstBad}

@@ -249,7 +249,7 @@ impl Connection {
         }
     }
 
-    // Reads a piece of the stream, if some may be there. Returns whether more may be, or why nothing comes any more.
+    // Reads a piece of the stream, if some may be there. Returns whether more may be, or why the stream ended.
     fn read(&mut self) -> Result<bool, ClosedWhy>
         requires { IsBeginning Two self.old.incoming.bytes }
         ensures came { Reads self.old.incoming result self.new.incoming }

@@ -1,4 +1,4 @@
-pub mod Apart
-pub mod PlaceLaws
-pub mod Standing
-pub mod Stamping
+pub mod DistinctFlowLemmas
+pub mod FirstItemLemmas
+pub mod RingLemmas
+pub mod StampLemmas

@@ -4,7 +4,7 @@ use Rattle.share_base.specs.Body.{BodyView}
 use Rattle.share_model.specs.link.Buffers.{BufferOf, is_buffer_of}
 use Rattle.share_model.specs.lists.Change.{change_first}
 
--- what a contract sees of a buffer: of each packet the payload, and the bytes stamped before it
+-- the view of a buffer in contracts: of each packet the payload, and the bytes stamped before it
 abbrev pub BufferView : Type 0
 BufferView = BufferOf BodyView
 

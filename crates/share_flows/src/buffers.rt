@@ -274,9 +274,9 @@ impl Buffers {
     }
 }
 
-// Where the ring of a flow is, if there is one. Flows are mostly opened in the order of their numbers, so first the
-// place is tried where it is if no flow between the first one and it was closed; then a search by halves; and only then
-// each ring in turn.
+// Where the ring of a flow is, if there is one. Flows are mostly opened in the order of their numbers. So the first try
+// is the place that it has if no flow between the first one and it was closed. Then comes a search by halves, and only
+// then each ring in turn.
 fn place_of(rings: &[Ring], flow: FlowNo) -> Option<usize>
     requires { AreApart rings.now }
     ensures { result ≡ position (is_buffer_of flow) rings.now }

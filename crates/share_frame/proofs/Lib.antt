@@ -1,7 +1,7 @@
-mod Bytes
-mod Fields
-mod Filled
-mod OneAnswer
-mod Order
-mod Steps
-mod Whole
+mod BeginningLemmas
+mod ByteLemmas
+mod FieldLemmas
+mod FieldOrderLemmas
+mod FieldReadingLemmas
+mod UniqueAnswerLemmas
+mod WholeHeaderLemmas

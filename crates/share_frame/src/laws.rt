@@ -1,4 +1,4 @@
-//! What holds of every frame. The function here does nothing. Its contract is a law, and is proved.
+//! Laws of every frame. The function here does nothing. Its contract is a law, and is proved.
 ghost use Rattle.std.specs.Prelude.{◌≡◌, ◌≤◌, List, ℕ, ◌++◌, length};
 ghost use Rattle.share_base.specs.declared.version.Version.{Version};
 ghost use Rattle.share_base.specs.declared.version.Version.TheVariants.{Two};
@@ -7,9 +7,9 @@ ghost use Rattle.share_model.specs.run.History.{IsBeginning};
 ghost use Rattle.share_frame.specs.Reading.{IsOfVersion};
 
 /// No frame is a proper beginning of a frame, of its version or of the other. If bytes begin with the frames of two
-/// packets of a version, these are the same packet, in version 2 under the same tariff, and the same bytes follow. The
-/// second byte tells the version: bytes that begin with a frame, or are the beginning of one, of each version are fewer
-/// than two.
+/// packets of a version, these are the same packet, and the same bytes follow. In version 2 they are under the same
+/// tariff. The second byte gives the version: bytes that begin with a frame, or are the beginning of one, of each
+/// version are fewer than two.
 pub fn no_frame_begins_another()
     ensures proper { (version other : Version) (tariff : ℕ) (head : Packet) → FitsFrame version tariff head
         → ¬ IsBeginning other (frame version tariff head) }

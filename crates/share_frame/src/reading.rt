@@ -1,4 +1,4 @@
-//! What bytes begin with: a frame, a part of a frame, or a field that no frame has.
+//! The beginning of bytes: a frame, a part of a frame, or a field that no frame has.
 ghost use Rattle.std.specs.Prelude.{◌≡◌, ◌<◌, ◌≤◌, ◌+◌, ◌↔◌, ℕ, IsTrue, MatchOption, length, slice_index};
 ghost use Rattle.share_base.specs.Version.{header_length};
 ghost use Rattle.share_base.specs.declared.version.Version.TheVariants.{One, Two};
@@ -60,7 +60,7 @@ impl Field {
     }
 }
 
-/// What bytes begin with, read as frames of version 1.
+/// The beginning of bytes, read as frames of version 1.
 #[derive(Clone, Copy, Debug, PartialEq, Eq)]
 pub enum FrameRead {
     /// A frame, with the numbers of its packet and how many bytes of payload it has.
@@ -71,7 +71,7 @@ pub enum FrameRead {
     Bad(Field),
 }
 
-/// What bytes begin with, read as frames of version 2.
+/// The beginning of bytes, read as frames of version 2.
 #[derive(Clone, Copy, Debug, PartialEq, Eq)]
 pub enum FrameRead2 {
     /// A frame, with the numbers of its packet and of its flow's tariff, and how many bytes of payload it has.
@@ -116,7 +116,7 @@ pub fn read_frame2(bytes: &[u8]) -> FrameRead2
     read(Version::Two, bytes)
 }
 
-// What the bytes begin with. In version 1 the tariff is 0.
+// The beginning of the bytes. In version 1 the tariff is 0.
 fn read(version: Version, bytes: &[u8]) -> FrameRead2
     ensures { IsReadAs version bytes.now result }
 {

@@ -20,7 +20,7 @@ pub(crate) const VERSION: u8 = 1;
 pub(crate) const VERSION2: u8 = 2;
 
 /// The first 12 bytes of a frame of version 1: two that name the format and its version, the flow number, the sequence
-/// number, and `len`, which is how many bytes the payload has, each high byte first. It takes no memory.
+/// number, and `len`, the length of the payload. Numbers are big-endian. It takes no memory.
 pub fn header(flow: FlowNo, seq: u32, len: u16) -> [u8; HEADER]
     // No tariff is in it, so this holds of each.
     ensures bytes { (tariff : ℕ) → result ≡ header One tariff flow seq len }

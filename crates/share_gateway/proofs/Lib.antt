@@ -1,9 +1,9 @@
-pub mod FramesLemmas
+pub mod FrameLemmas
 pub mod OpenedLemmas
 pub mod OpeningLemmas
 pub mod OutboxHistoryLemmas
 pub mod OutboxLemmas
 pub mod PlanChangeLemmas
 pub mod PlannedLemmas
-pub mod RecordsLemmas
+pub mod RecordLemmas
 pub mod TicketLemmas

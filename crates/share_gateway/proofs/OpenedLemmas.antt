@@ -20,7 +20,7 @@ use Rattle.share_model.specs.link.View.{LinkView}
 use Rattle.share_model.specs.link.Tariff.{AreInRange}
 use Rattle.share_model.specs.run.Events.{MayFollow, MayRun}
 use Rattle.share_model.specs.run.Fold.{State, empty_state, run, state_after, outcomes}
-use Rattle.share_model.proofs.lemmas.run.FoldLaws.{state-empty, state-after, events-commanded}
+use Rattle.share_model.proofs.lemmas.run.EventLemmas.{state-empty, state-after, events-commanded}
 use Rattle.share_journal.specs.Records.{IsRunOf}
 use Rattle.share_gateway.specs.declared.plan.Entry.{Entry}
 use Rattle.share_gateway.specs.declared.plan.Entry.TheVariants.{Tenant}
@@ -85,7 +85,8 @@ length-opening p limits =
     let flows = flow_commands p.tenants in
     let grants = flat_map grant_commands (numbered (all_grants p)) in
     let holds = flat_map hold_commands (numbered p.tenants) in
-    let parts = both (ascends 0 (flows_of p.tenants)) (list_all (λ n. nat_le n 1024) (flows_of p.tenants)) limits.flows in
+    let parts = both (ascends 0 (flows_of p.tenants)) (list_all (λ n. nat_le n 1024) (flows_of p.tenants))
+    limits.flows in
     let funding : funding_commands p ≤ 65536 = grind (arith, nat_tests, limits.funding) in
     let greatest = greatest_within p.tenants parts.1 in
     let tenants = tenants_ascend 0 p.tenants parts.0 in
@@ -94,7 +95,8 @@ length-opening p limits =
     let two = length-append made flows in
     let first = length-map (numbered p.currencies) make_command in
     let currencies = length-enumerate_from 1 p.currencies in
-    let second = length_flat_map_le (number_commands p.tenants) 2 (λ n. few_by_number n (find (reaches n) (numbered p.tenants)))
+    let second = length_flat_map_le (number_commands p.tenants) 2
+    (λ n. few_by_number n (find (reaches n) (numbered p.tenants)))
     (range_with_len 1 (greatest_flow p.tenants)) in
     let numbers = length-range_with_len 1 (greatest_flow p.tenants) in
     let third = length_flat_map_le grant_commands 2 few_grants (numbered (all_grants p)) in
@@ -149,7 +151,8 @@ goes-living {left = left} was lasts = omega (arith, was.few, lasts)
 no_refusal : (c : PlanCommand) (o : Outcome) (commands : List PlanCommand) (answers : List Outcome)
     → refusals_in o ≡ [] → refused_among (c ∷ commands) (o ∷ answers) ≡ refused_among commands answers
 no_refusal c o commands answers none =
-    ap (λ (refusals : List Refusal). map (λ refusal. (c.entry, refusal)) refusals ++ refused_among commands answers) none
+    ap (λ (refusals : List Refusal). map (λ refusal. (c.entry, refusal)) refusals ++ refused_among commands answers)
+    none
 
 first_refusal_of : (c : PlanCommand) (o : Outcome) (commands : List PlanCommand) (answers : List Outcome) (e : Refusal)
     → refusals_in o ≡ e ∷ [] → slice_get (refused_among (c ∷ commands) (o ∷ answers)) 0 ≡ Some (c.entry, e)
@@ -213,7 +216,7 @@ module _ {rates : List Rate} {p : PlanView} {life : ℕ} {l : Live} (was : GoesO
     tells = tt;
   }
 
--- What a call makes of it
+-- The effect of a call on it
 
 pub book-lasts : (events : ℕ) → is_book_life events ≡ true → 131072 ≤ events
 book-lasts events lasts =
@@ -239,7 +242,8 @@ module _ {W : Type 0} (rates : List Rate) (p : PlanView) (life : ℕ) (old new :
       -- it is made
       pub made-goes_on : IsMade old c new → GoesOn rates p life new.live left
       made-goes_on made =
-          let allowed = subst (λ (rs : List Rate). refusals_in (answer_to rs old.live c.command) ≡ []) same_rates made.allowed in
+          let allowed = subst (λ (rs : List Rate). refusals_in (answer_to rs old.live c.command) ≡ []) same_rates
+          made.allowed in
           let next = goes-made here (goes-living here (book-lasts life lasts)) made.fields allowed in
           let live : new.live ≡ (command_step rates old.live c.command).0 =
           made.live ∙ ap (λ (rs : List Rate). (command_step rs old.live c.command).0) same_rates in
@@ -250,7 +254,8 @@ module _ {W : Type 0} (rates : List Rate) (p : PlanView) (life : ℕ) (old new :
       unmade-is_not NoMemory unmade = lasts
       unmade-is_not Range unmade = absurd unmade
       unmade-is_not (RefusedEntry entry refusal) unmade =
-          let one = subst (λ (rs : List Rate). refusals_in (answer_to rs old.live c.command) ≡ refusal ∷ []) same_rates unmade.1 in
+          let one = subst (λ (rs : List Rate). refusals_in (answer_to rs old.live c.command) ≡ refusal ∷ []) same_rates
+          unmade.1 in
           (lasts, goes-refused here refusal one ∙ ap (λ (e : Entry). Some (e, refusal)) (sym unmade.0))
 
     -- no command is left

@@ -1,6 +1,7 @@
 -- The opening of a plan, section by section.
 use Rattle.std.specs.Prelude.{◌≡◌, ◌<◌, ◌≤◌, ℕ, zero, suc, ◌+◌, ◌-◌, ◌^◌, Bool, true, false, ◌&&◌, List, [], ◌∷◌, ◌++◌}
-use Rattle.std.specs.Prelude.{map, flat_map, find, length, drop, max, option_map, nat_eq, nat_le, nat_lt, sum_by, slice_get, None}
+use Rattle.std.specs.Prelude.{map, flat_map, find, length, drop, max, option_map, nat_eq, nat_le, nat_lt, sum_by}
+use Rattle.std.specs.Prelude.{slice_get, None}
 use Rattle.std.specs.Prelude.{Some}
 use Rattle.std.specs.List.{enumerate_from, range_with_len, list_all}
 use Rattle.std.proofs.Common.{get_or, refl, ap, sym, ◌∙◌, arith, add-one, append_assoc, length-append}
@@ -17,10 +18,12 @@ use Rattle.share_gateway.specs.declared.openings.Found.{Found}
 use Rattle.share_gateway.specs.declared.openings.GrantCursor.{GrantCursor}
 use Rattle.share_gateway.specs.declared.openings.Group.{Group}
 use Rattle.share_gateway.specs.declared.openings.PlanCommand.{PlanCommand}
-use Rattle.share_gateway.specs.Plan.{CurrencyView, TenantView, PlanView, IsInLimits, are_flow_numbers, flows_of, ascends}
+use Rattle.share_gateway.specs.Plan.{CurrencyView, TenantView, PlanView, IsInLimits, are_flow_numbers, flows_of}
+use Rattle.share_gateway.specs.Plan.{ascends}
 use Rattle.share_gateway.specs.Plan.{greatest_flow, grants_in, funding_commands}
 use Rattle.share_gateway.specs.Opening.{numbered, make_command, reaches, number_by, number_commands, flow_commands}
-use Rattle.share_gateway.specs.Opening.{open_command, gap_commands, Grantee, to_currency, to_tenant, grantees, grants_to}
+use Rattle.share_gateway.specs.Opening.{open_command, gap_commands, Grantee, to_currency, to_tenant, grantees}
+use Rattle.share_gateway.specs.Opening.{grants_to}
 use Rattle.share_gateway.specs.Opening.{grant_to, all_grants_to, all_grants, grant_commands, hold_commands}
 use Rattle.share_gateway.specs.Opening.{opening}
 use Rattle.share_gateway.specs.OpeningLeft.{gap_list, flows_from, grants_from, grants_after, grants_left, holds_left}
@@ -71,7 +74,8 @@ get-numbered f xs i x e =
     get_map f (numbered xs) i (1 + i, x) (numbered-get 1 xs i x e)
     ∙ (let same : 1 + i ≡ i + 1 = omega arith in ap (λ k. Some (f (k, x))) same)
 
-pub get-front : {A : Type 0} (xs ys : List A) (i : ℕ) (x : A) → slice_get xs i ≡ Some x → slice_get (xs ++ ys) i ≡ Some x
+pub get-front : {A : Type 0} (xs ys : List A) (i : ℕ) (x : A) → slice_get xs i ≡ Some x
+    → slice_get (xs ++ ys) i ≡ Some x
 get-front [] ys i x e = cc
 get-front (y ∷ xs) ys zero x e = e
 get-front (y ∷ xs) ys (suc i) x e = get-front xs ys i x e
@@ -107,7 +111,7 @@ range_append a (suc m) n =
     ap (range_with_len a) one
     ∙ ap (λ ns. a ∷ ns) (range_append (a + 1) m n ∙ ap (λ b. range_with_len (a + 1) m ++ range_with_len b n) e)
 
--- what the tenants make of a flow number
+-- the commands that the tenants give for a flow number
 made_of : List (ℕ × TenantView) → ℕ → List PlanCommand
 made_of ts k = number_by k (find (reaches k) ts)
 
@@ -243,7 +247,8 @@ pub grants-next : (p : PlanView) (index grant : ℕ) (to : Grantee) (g : Grant) 
 grants-next p index grant to g at is =
     let others = flat_map all_grants_to (drop (index + 1) (grantees p)) in
     let these = drop-get (grantees p) index to at in
-    let first = drop-get (all_grants_to to) grant (grant_to to (grant + 1, g)) (get-numbered (grant_to to) (grants_to to) grant g is) in
+    let first = drop-get (all_grants_to to) grant (grant_to to (grant + 1, g))
+    (get-numbered (grant_to to) (grants_to to) grant g is) in
     rw these (ap (λ gs. gs ++ others) first)
 
 -- a grantee has no grant left
@@ -291,7 +296,8 @@ mapped_get f (x ∷ xs) zero y is = (x, refl, same_Some (f x) y is)
 mapped_get f (x ∷ xs) (suc i) y is = mapped_get f xs i y is
 
 pub grantee-mapped : (p : PlanView) (index : ℕ) (to : Grantee) → length p.currencies ≤ index
-    → option_map (λ t. to_tenant (index - length p.currencies + 1, t)) (slice_get p.tenants (index - length p.currencies))
+    → option_map (λ t. to_tenant (index - length p.currencies + 1, t))
+    (slice_get p.tenants (index - length p.currencies))
     ≡ Some to
     → slice_get (grantees p) index ≡ Some to
 grantee-mapped p index to past is =
@@ -308,7 +314,8 @@ length_to_currencies : (n : ℕ) (cs : List CurrencyView)
     ≡ sum_by (λ (c : CurrencyView). length c.grants) cs
 length_to_currencies n [] = refl
 length_to_currencies n (c ∷ cs) =
-    length-append (all_grants_to (to_currency (n, c))) (flat_map all_grants_to (map to_currency (enumerate_from (n + 1) cs)))
+    length-append (all_grants_to (to_currency (n, c)))
+    (flat_map all_grants_to (map to_currency (enumerate_from (n + 1) cs)))
     ∙ rw (length_all_to (to_currency (n, c)), length_to_currencies (n + 1) cs)
     (sym (sum_by-cons (λ (c : CurrencyView). length c.grants) c cs))
 
@@ -317,7 +324,8 @@ length_to_tenants : (n : ℕ) (ts : List TenantView)
     ≡ sum_by (λ (t : TenantView). length t.grants) ts
 length_to_tenants n [] = refl
 length_to_tenants n (t ∷ ts) =
-    length-append (all_grants_to (to_tenant (n, t))) (flat_map all_grants_to (map to_tenant (enumerate_from (n + 1) ts)))
+    length-append (all_grants_to (to_tenant (n, t)))
+    (flat_map all_grants_to (map to_tenant (enumerate_from (n + 1) ts)))
     ∙ rw (length_all_to (to_tenant (n, t)), length_to_tenants (n + 1) ts)
     (sym (sum_by-cons (λ (t : TenantView). length t.grants) t ts))
 
@@ -353,7 +361,7 @@ numbers-fit p limits =
     let all : length (grants_after p 0 0) ≡ grants_in p = ap length (grants-all (grantees p)) ∙ length-all_grants p in
     omega (arith, few, all)
 
--- what a call of the cursor does
+-- the effect of a call of the cursor
 
 pub get-item : {A : Type 0} (xs : List A) (i : ℕ) (x : A) → i < length xs → x ≡ get_or xs i x → slice_get xs i ≡ Some x
 get-item xs i x within is = slice_get-get_or xs i x within ∙ ap Some (sym is)
@@ -381,7 +389,8 @@ left-grant p cursor found g group finds is group_is =
     let next = grants-next p found.index found.grant (seen found.grantee) g finds.stands is in
     let later = grants_after p found.index (found.grant + 1) in
     ap (λ gs. flat_map grant_commands (enumerate_from cursor.ticket gs)) (finds.same ∙ next)
-    ∙ ap (λ (cs : List PlanCommand). cs ++ flat_map grant_commands (enumerate_from (cursor.ticket + 1) later)) (sym group_is)
+    ∙ ap (λ (cs : List PlanCommand). cs ++ flat_map grant_commands (enumerate_from (cursor.ticket + 1) later))
+    (sym group_is)
 
 pub fit-grant : (p : PlanView) (cursor : GrantCursor) (found : Found) (g : Grant)
     → FindsGrant p cursor.grantee cursor.grant found

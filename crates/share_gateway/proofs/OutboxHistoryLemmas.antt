@@ -1,4 +1,4 @@
--- What an outbox gave out is the frames that went in, in order.
+-- The bytes that an outbox gave out are the frames that went in, in order.
 use Rattle.std.proofs.Common.{◌≡◌, ◌⊎◌, inl, inr, ℕ, ◌+◌, ◌-◌, ◌<◌, ◌≤◌, Bool, true, false, nat_le}
 use Rattle.std.proofs.Common.{if◌then◌else◌, List, [], ◌∷◌, ◌++◌, length, take, drop, arith, refl, sym, ap, ◌∙◌, subst}
 use Rattle.std.proofs.lemmas.Bool.{leb-true, leb-false}
@@ -18,7 +18,7 @@ take_sum m n xs =
     sym (take-append-drop m (take (m + n) xs))
     ∙ (λ k. take-take m (m + n) xs (omega arith) k ++ drop-take m n xs k)
 
--- What is gone and what is left after some bytes are out
+-- The bytes that are gone and those that are left after some bytes are out
 
 record Passed (frames : List (List ℕ)) (out allowed : ℕ) (o : OutboxView) : Type 0 where
   pub gone : List (List ℕ)

@@ -8,7 +8,8 @@ use Rattle.std.proofs.lemmas.List.{take-append-drop, take-append-le, drop-append
 use Rattle.std.proofs.lemmas.List.{nil_from_length, take_all}
 use Rattle.std.proofs.lemmas.List.Sums.{sum_by-cons}
 use Rattle.std.specs.List.{concat}
-use Rattle.share_gateway.specs.Outbox.{OutboxView, frame_bytes, takes, room_of, with_frame, allow_more, ready_of, passed}
+use Rattle.share_gateway.specs.Outbox.{OutboxView, frame_bytes, takes, room_of, with_frame, allow_more, ready_of}
+use Rattle.share_gateway.specs.Outbox.{passed}
 use Rattle.share_gateway.specs.Outbox.{without_whole, frames_in}
 
 sum-cons : (n : ℕ) (ns : List ℕ) → sum (n ∷ ns) ≡ n + sum ns
@@ -38,7 +39,7 @@ frames-push (n ∷ ns) bs m piece long same =
     let more = frames-push ns (drop n bs) m piece rest.1 same in
     (λ k. front k ∷ (ap (λ t. frames_in (ns ++ m ∷ []) t) back ∙ more) k)
 
--- What is passed
+-- The part that is passed
 
 if_true : {A : Type 0} (b : Bool) (x y : A) → b ≡ true → (if b then x else y) ≡ x
 if_true true x y is = refl

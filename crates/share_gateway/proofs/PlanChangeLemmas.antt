@@ -1,5 +1,6 @@
 -- A plan whose holds or amounts change stays in its limits.
-use Rattle.std.specs.Prelude.{◌≡◌, ◌<◌, ◌≤◌, ◌+◌, ◌*◌, ℕ, zero, suc, Bool, true, false, find, is_some, List, [], ◌∷◌, length, map, sum_by, nat_le, nat_lt, if◌then◌else◌}
+use Rattle.std.specs.Prelude.{◌≡◌, ◌<◌, ◌≤◌, ◌+◌, ◌*◌, ℕ, zero, suc, Bool, true, false, find, is_some, List, [], ◌∷◌}
+use Rattle.std.specs.Prelude.{length, map, sum_by, nat_le, nat_lt, if◌then◌else◌}
 use Rattle.std.specs.List.{list_all}
 use Rattle.std.proofs.Common.{refl, ap, sym, ◌∙◌, arith, get_or, slice_set}
 use Rattle.std.proofs.lemmas.Bool.{cond_both, cond-true, cond-false}
@@ -8,11 +9,13 @@ use Rattle.std.proofs.lemmas.List.{length-map}
 use Rattle.std.proofs.lemmas.List.Sums.{sum_by-cons}
 use Rattle.share_model.specs.funding.Graph.{NameBytes}
 use Rattle.share_model.specs.lists.Change.{change_first}
-use Rattle.share_model.proofs.lemmas.lists.Laws.{length-change_first, map-change_first}
+use Rattle.share_model.proofs.lemmas.lists.FirstItemLemmas.{length-change_first, map-change_first}
 use Rattle.share_gateway.specs.declared.plan.Grant.{Grant}
-use Rattle.share_gateway.specs.PlanChanges.{is_tenant, held_as, with_hold, amend_at, currency_amended, tenant_amended, with_amount}
+use Rattle.share_gateway.specs.PlanChanges.{is_tenant, held_as, with_hold, amend_at, currency_amended, tenant_amended}
+use Rattle.share_gateway.specs.PlanChanges.{with_amount}
 use Rattle.share_gateway.specs.Plan.{has_name}
-use Rattle.share_gateway.specs.Plan.{PlanView, CurrencyView, TenantView, IsInLimits, ascends, are_flow_numbers, flows_of}
+use Rattle.share_gateway.specs.Plan.{PlanView, CurrencyView, TenantView, IsInLimits, ascends, are_flow_numbers}
+use Rattle.share_gateway.specs.Plan.{flows_of}
 use Rattle.share_gateway.proofs.OpeningLemmas.{both}
 
 sum_kept : {A : Type 0} (f : A → ℕ) (p : A → Bool) (change : A → A) → ((x : A) → f (change x) ≡ f x) → (xs : List A)
@@ -34,7 +37,8 @@ limits-held name held p was = record {
       p.tenants)
       ∙ was.flows;
   funding =
-      ap (λ n. nat_le (length p.currencies + 2 * (sum_by (λ (c : CurrencyView). length c.grants) p.currencies + n)) 65536)
+      ap (λ n. nat_le (length p.currencies + 2 * (sum_by (λ (c : CurrencyView). length c.grants) p.currencies + n))
+      65536)
       (sum_kept (λ (t : TenantView). length t.grants) (is_tenant name) (held_as held) (λ t. refl) p.tenants)
       ∙ was.funding;
 }
@@ -53,7 +57,8 @@ few_flows n (m ∷ ms) rising all few =
 
 pub few_tenants : (p : PlanView) → IsInLimits p → length p.tenants ≤ 1024
 few_tenants p limits =
-    let parts = both (ascends 0 (flows_of p.tenants)) (list_all (λ m. nat_le m 1024) (flows_of p.tenants)) limits.flows in
+    let parts = both (ascends 0 (flows_of p.tenants)) (list_all (λ m. nat_le m 1024) (flows_of p.tenants))
+    limits.flows in
     let few = few_flows 0 (flows_of p.tenants) parts.0 parts.1 (omega arith) in
     omega (arith, few, length-map p.tenants (λ (t : TenantView). t.flow))
 
@@ -75,7 +80,8 @@ module _ (name : NameBytes) (index amount : ℕ) (p : PlanView) (was : IsInLimit
         (change_first (has_name name) (currency_amended index amount) p.currencies)
         + sum_by (λ (t : TenantView). length t.grants) p.tenants)) 65536)
         (length-change_first (has_name name) (currency_amended index amount) p.currencies)
-        ∙ ap (λ n. nat_le (length p.currencies + 2 * (n + sum_by (λ (t : TenantView). length t.grants) p.tenants)) 65536)
+        ∙ ap (λ n. nat_le (length p.currencies + 2 * (n + sum_by (λ (t : TenantView). length t.grants) p.tenants))
+        65536)
         (sum_kept (λ (c : CurrencyView). length c.grants) (has_name name) (currency_amended index amount)
         (λ c. length-amended index amount c.grants) p.currencies)
         ∙ was.funding;
@@ -86,11 +92,13 @@ module _ (name : NameBytes) (index amount : ℕ) (p : PlanView) (was : IsInLimit
   })
   limits-tenant = record {
     flows =
-        ap are_flow_numbers (map-change_first (λ (t : TenantView). t.flow) (is_tenant name) (tenant_amended index amount)
+        ap are_flow_numbers (map-change_first (λ (t : TenantView). t.flow) (is_tenant name)
+        (tenant_amended index amount)
         (λ t. refl) p.tenants)
         ∙ was.flows;
     funding =
-        ap (λ n. nat_le (length p.currencies + 2 * (sum_by (λ (c : CurrencyView). length c.grants) p.currencies + n)) 65536)
+        ap (λ n. nat_le (length p.currencies + 2 * (sum_by (λ (c : CurrencyView). length c.grants) p.currencies + n))
+        65536)
         (sum_kept (λ (t : TenantView). length t.grants) (is_tenant name) (tenant_amended index amount)
         (λ t. length-amended index amount t.grants) p.tenants)
         ∙ was.funding;
@@ -134,7 +142,8 @@ module _ (name : NameBytes) (index amount : ℕ) (p : PlanView) where
       ap (λ cs. record { currencies = cs; tenants = p.tenants }) is
       ∙ sym (cond-true (is_some (find (has_name name) p.currencies)) _ _ found)
 
-  pub amount-tenant : (cs : List CurrencyView) (ts : List TenantView) → is_some (find (has_name name) p.currencies) ≡ false
+  pub amount-tenant : (cs : List CurrencyView) (ts : List TenantView)
+      → is_some (find (has_name name) p.currencies) ≡ false
       → cs ≡ change_first (has_name name) (currency_amended index amount) p.currencies
       → ts ≡ change_first (is_tenant name) (tenant_amended index amount) p.tenants
       → record { currencies = cs; tenants = ts } ≡ with_amount name index amount p

@@ -36,19 +36,22 @@ use Rattle.share_model.specs.link.Live.{Live, by_refusal, empty_link}
 use Rattle.share_model.specs.lists.Change.{change_first}
 use Rattle.share_model.specs.lists.Each.{Each}
 use Rattle.share_model.specs.run.Fold.{State, state_after, outcomes}
-use Rattle.share_model.proofs.lemmas.lists.Laws.{each-append}
-use Rattle.share_model.proofs.lemmas.lists.RemoveLaws.{none_from}
-use Rattle.share_model.proofs.lemmas.lists.SumLaws.{name_refl}
+use Rattle.share_model.proofs.lemmas.lists.FirstItemLemmas.{each-append}
+use Rattle.share_model.proofs.lemmas.lists.RemovalLemmas.{none_from}
+use Rattle.share_model.proofs.lemmas.lists.SumLemmas.{name_refl}
 use Rattle.share_gateway.specs.declared.plan.Entry.{Entry}
 use Rattle.share_gateway.specs.declared.plan.Entry.TheVariants.{Tenant as TenantEntry}
 use Rattle.share_gateway.specs.declared.openings.PlanCommand.{PlanCommand}
 use Rattle.share_gateway.specs.Plan.{CurrencyView, TenantView, PlanView, IsInLimits, ascends, flows_of, gap}
-use Rattle.share_gateway.specs.Opening.{planned, make_command, open_command, gap_commands, Grantee, ToCurrency, ToTenant}
+use Rattle.share_gateway.specs.Opening.{planned, make_command, open_command, gap_commands, Grantee, ToCurrency}
+use Rattle.share_gateway.specs.Opening.{ToTenant}
 use Rattle.share_gateway.specs.declared.plan.Grant.{Grant}
 use Rattle.share_gateway.specs.Opening.{flow_commands, fund_command, grant_to, all_grants_to, to_currency, to_tenant}
-use Rattle.share_gateway.specs.Opening.{GrantTo, grant_commands, grant_entry, hold_commands, opening, all_grants, numbered}
+use Rattle.share_gateway.specs.Opening.{GrantTo, grant_commands, grant_entry, hold_commands, opening, all_grants}
+use Rattle.share_gateway.specs.Opening.{numbered}
 use Rattle.share_gateway.specs.OpeningLeft.{gap_list, flows_from}
-use Rattle.share_gateway.specs.Opened.{event_of, refusals_in, refused_among, first_refused, opened_link, opening_outcomes}
+use Rattle.share_gateway.specs.Opened.{event_of, refusals_in, refused_among, first_refused, opened_link}
+use Rattle.share_gateway.specs.Opened.{opening_outcomes}
 use Rattle.share_gateway.specs.Making.{answer_to}
 use Rattle.share_gateway.specs.Planned.{planned_ticket, planned_flow, planned_buffer, planned_book, name_of_currency}
 use Rattle.share_gateway.specs.Planned.{holder_of, HoldsPlan}
@@ -88,8 +91,12 @@ allowed-all rates l (c ∷ cs) none =
     let next = (command_step rates l c.command).0 in
     let here = map (λ (refusal : Refusal). (c.entry, refusal)) (refusals_in (answer_to rates l c.command)) in
     let parts = nothing here (refused_among cs (outcomes rates (state_of next) (map event_of cs))) none in
-    let free = map_nothing (λ (refusal : Refusal). (c.entry, refusal)) (refusals_in (answer_to rates l c.command)) parts.0 in
-    (allowed_by l (command_refusal rates l c.command) (change_by_command l c.command) free, allowed-all rates next cs parts.1)
+    let free = map_nothing (λ (refusal : Refusal). (c.entry, refusal)) (refusals_in (answer_to rates l c.command))
+    parts.0 in (
+      allowed_by l (command_refusal rates l c.command) (change_by_command l c.command) free,
+      allowed-all rates next cs
+          parts.1,
+    )
 
 pub state_after-all : (rates : List Rate) (l : Live) (cs : List PlanCommand)
     → state_after rates (state_of l) (map event_of cs) ≡ state_of (after_all rates l cs)
@@ -126,7 +133,7 @@ module _ (rates : List Rate) (P Q : Live → Type 0) where
       subst Q (sym (ap (λ (o : Option Refusal). (by_refusal l o (change_by_command l c.command)).0) allowed.0))
       (step l was allowed.0)
 
--- What a link holds besides its queue and its counts
+-- The parts of a link besides its queue and its counts
 
 pub record Holds (g : Graph) (bs : List Buffer) (ks : List Book) (l : Live) : Type 0 where
   pub graph : l.graph ≡ g
@@ -161,7 +168,8 @@ module _ (rates : List Rate) where
       let all = leads_on rates (Holds (drawn names [] 1 [] 1) [] []) (Holds (drawn more [] 1 [] 1) [] [])
       (Holds (drawn (more ++ map name_of_currency cs) [] 1 [] 1) [] []) (make_command (n, c) ∷ [])
       (map make_command (enumerate_from (n + 1) cs)) first (currencies_made (n + 1) more cs) in
-      subst (λ (all : List NameBytes). Holds (drawn all [] 1 [] 1) [] [] (after_all rates l (map make_command (enumerate_from n (c ∷ cs)))))
+      subst (λ (all : List NameBytes). Holds (drawn all [] 1 [] 1) [] []
+      (after_all rates l (map make_command (enumerate_from n (c ∷ cs)))))
       (append_assoc names (c.name ∷ []) (map name_of_currency cs)) (all l was allowed)
 
 -- Lists
@@ -175,7 +183,8 @@ last_changed : {A : Type 0} (p : A → Bool) (change : A → A) (xs ys : List A)
     → p x ≡ true → change_first p change (xs ++ x ∷ ys) ≡ xs ++ change x ∷ ys
 unfolding change_first
 last_changed p change [] ys x others is = rw is refl
-last_changed p change (y ∷ xs) ys x others is = rw others.0 (ap (λ zs. y ∷ zs) (last_changed p change xs ys x others.1 is))
+last_changed p change (y ∷ xs) ys x others is =
+    rw others.0 (ap (λ zs. y ∷ zs) (last_changed p change xs ys x others.1 is))
 
 same_changed : {A : Type 0} (p : A → Bool) (change : A → A) (xs : List A) → Each (λ x. change x ≡ x) xs
     → change_first p change xs ≡ xs
@@ -200,7 +209,8 @@ each_of P all (x ∷ xs) = (all x, each_of P all xs)
 abbrev pub IsNamed : List TenantView → TenantView → Type 0
 IsNamed ts t = lookup (bytes_eq t.name) (map planned_flow ts) ≡ Some (planned_flow t).1
 
-named_on : (name : NameBytes) (e : FlowEntry) (ts us : List TenantView) → lookup (bytes_eq name) (map planned_flow ts) ≡ Some e
+named_on : (name : NameBytes) (e : FlowEntry) (ts us : List TenantView)
+    → lookup (bytes_eq name) (map planned_flow ts) ≡ Some e
     → lookup (bytes_eq name) (map planned_flow (ts ++ us)) ≡ Some e
 named_on name e [] us found = cc
 named_on name e (t ∷ ts) us found = by_head (bytes_eq name t.name) (named_on name e ts us) found
@@ -243,7 +253,8 @@ name_free : (rates : List Rate) (l : Live) (name : NameBytes) (limit tariff : �
     → command_refusal rates l (OpenFlow name limit tariff) ≡ None → flow_named l.graph name ≡ None
 name_free rates l name limit tariff allowed =
     none_from (flow_named l.graph name) (free_third (not (nat_le 1 limit && nat_le limit 1024))
-    (not (is_some (rate_at rates tariff))) (is_some (flow_named l.graph name)) (nat_le 64 (length l.graph.flows)) allowed)
+    (not (is_some (rate_at rates tariff))) (is_some (flow_named l.graph name)) (nat_le 64 (length l.graph.flows))
+    allowed)
 
 -- Flows
 
@@ -307,12 +318,14 @@ module _ (rates : List Rate) (cs : List NameBytes) where
               ∙ ap (λ (ks : List Book). ks ++ new_book n 1 ∷ []) was.holds.books;
         };
         named = was.named;
-        free = ap (λ (g : Graph). lookup (bytes_eq gap) g.flows) (sym was.holds.graph) ∙ name_free rates l gap 1 1 allowed;
+        free = ap (λ (g : Graph). lookup (bytes_eq gap) g.flows) (sym was.holds.graph)
+            ∙ name_free rates l gap 1 1 allowed;
       })
 
   gap_closes : (e : Entry) (n : ℕ) (done : List TenantView) → Each (λ (t : TenantView). t.flow < n) done
       → Leads rates (GapOpen cs n done) (planned e (CloseFlow gap) ∷ []) (FlowsMade cs (n + 1) done)
-  gap_closes e n done below = leads_one rates (GapOpen cs n done) (FlowsMade cs (n + 1) done) (planned e (CloseFlow gap))
+  gap_closes e n done below = leads_one rates (GapOpen cs n done) (FlowsMade cs (n + 1) done)
+      (planned e (CloseFlow gap))
       (λ l was allowed.
       let own : nat_eq n n ≡ true = grind (arith, nat_tests) in
       let f : flow_number (flow_named l.graph gap) ≡ n =
@@ -328,7 +341,8 @@ module _ (rates : List Rate) (cs : List NameBytes) where
           buffers =
               ap (λ bs. close_in bs (flow_number (flow_named l.graph gap))) was.holds.buffers
               ∙ ap (close_in (map planned_buffer done ++ new_buffer n 1 ∷ [])) f
-              ∙ last_removed (is_buffer_of n) (map planned_buffer done) (new_buffer n 1) (other_buffers n done below) own;
+              ∙ last_removed (is_buffer_of n) (map planned_buffer done) (new_buffer n 1) (other_buffers n done below)
+              own;
           books =
               ap (λ ks. remove_key (is_book_of (flow_number (flow_named l.graph gap))) ks) was.holds.books
               ∙ ap (λ f. remove_key (is_book_of f) (map opened_book done ++ new_book n 1 ∷ [])) f
@@ -345,7 +359,8 @@ module _ (rates : List Rate) (cs : List NameBytes) where
       let e = TenantEntry i in
       let whole : n + 1 + k ≡ n + suc k = omega arith in
       let one = leads_on rates (FlowsMade cs n done) (GapOpen cs n done) (FlowsMade cs (n + 1) done)
-      (planned e (OpenFlow gap 1 1) ∷ []) (planned e (CloseFlow gap) ∷ []) (gap_opens e n done) (gap_closes e n done below) in
+      (planned e (OpenFlow gap 1 1) ∷ []) (planned e (CloseFlow gap) ∷ []) (gap_opens e n done)
+      (gap_closes e n done below) in
       let all = leads_on rates (FlowsMade cs n done) (FlowsMade cs (n + 1) done) (FlowsMade cs (n + 1 + k) done)
       (gap_commands e) (gap_list e k) one
       (gaps_made i k (n + 1) done (below_more n (n + 1) done (omega arith) below)) in
@@ -353,7 +368,8 @@ module _ (rates : List Rate) (cs : List NameBytes) where
 
   flow_opens : (i : ℕ) (t : TenantView) (done : List TenantView)
       → Leads rates (FlowsMade cs t.flow done) (open_command (i, t) ∷ []) (FlowsMade cs (t.flow + 1) (done ++ t ∷ []))
-  flow_opens i t done = leads_one rates (FlowsMade cs t.flow done) (FlowsMade cs (t.flow + 1) (done ++ t ∷ [])) (open_command (i, t))
+  flow_opens i t done = leads_one rates (FlowsMade cs t.flow done) (FlowsMade cs (t.flow + 1) (done ++ t ∷ []))
+      (open_command (i, t))
       (λ l was allowed.
       let free = ap (λ (g : Graph). lookup (bytes_eq t.name) g.flows) (sym was.holds.graph)
       ∙ name_free rates l t.name t.limit t.tariff allowed in
@@ -374,14 +390,16 @@ module _ (rates : List Rate) (cs : List NameBytes) where
               ∙ ap (λ (ks : List Book). ks ++ new_book t.flow t.tariff ∷ []) was.holds.books
               ∙ sym (map-append opened_book done (t ∷ []));
         };
-        named = each-append (IsNamed (done ++ t ∷ [])) done (t ∷ []) (each_named_on done done (t ∷ []) was.named) (own, tt);
+        named = each-append (IsNamed (done ++ t ∷ [])) done (t ∷ []) (each_named_on done done (t ∷ []) was.named)
+            (own, tt);
       })
 
   -- the flows of all tenants
   abbrev AllOpen : List TenantView → Live → Type 0
   AllOpen ts l = (n : ℕ) × FlowsMade cs n ts l
 
-  flows_made : (ts : List TenantView) (i m : ℕ) (done : List TenantView) → Each (λ (t : TenantView). t.flow < m + 1) done
+  flows_made : (ts : List TenantView) (i m : ℕ) (done : List TenantView)
+      → Each (λ (t : TenantView). t.flow < m + 1) done
       → ascends m (flows_of ts) ≡ true
       → Leads rates (FlowsMade cs (m + 1) done) (flows_from i (m + 1) ts) (AllOpen (done ++ ts))
   flows_made [] i m done below ascend l was allowed =
@@ -444,31 +462,37 @@ module _ (rates : List Rate) (cs : List NameBytes) (ts : List TenantView) (nf : 
 
     ticket_funds : (e : Entry) (n amount : ℕ) (denomination : NameBytes) (tickets : List Ticket) (to : Grantee)
         → Each (λ (t : Ticket). t.number < n) tickets → IsToNamed ts to
-        → Leads rates (Issued (n + 1) (tickets ++ unfunded n amount denomination ∷ [])) (planned e (fund_command to n) ∷ [])
+        → Leads rates (Issued (n + 1) (tickets ++ unfunded n amount denomination ∷ []))
+        (planned e (fund_command to n) ∷ [])
         (Issued (n + 1) (tickets ++ held_by (holder_of to) (unfunded n amount denomination) ∷ []))
     ticket_funds e n amount denomination tickets (ToCurrency i c) below named =
         let own : nat_eq n n ≡ true = grind (arith, nat_tests) in
         let made = unfunded n amount denomination in
-        leads_one rates (Issued (n + 1) (tickets ++ made ∷ [])) (Issued (n + 1) (tickets ++ held_by (Currency c.name) made ∷ []))
+        leads_one rates (Issued (n + 1) (tickets ++ made ∷ []))
+        (Issued (n + 1) (tickets ++ held_by (Currency c.name) made ∷ []))
         (planned e (FundCurrency n c.name)) (λ l was allowed. record {
           graph =
               ap (λ (g : Graph). fund_currency g n c.name) was.graph
               ∙ ap (λ tickets. drawn cs tickets (n + 1) (map planned_flow ts) nf)
-              (last_changed (is_numbered n) (held_by (Currency c.name)) tickets [] made (other_tickets n tickets below) own);
+              (last_changed (is_numbered n) (held_by (Currency c.name)) tickets [] made (other_tickets n tickets below)
+              own);
           buffers = was.buffers;
           books = was.books;
         })
     ticket_funds e n amount denomination tickets (ToTenant i t) below named =
         let own : nat_eq n n ≡ true = grind (arith, nat_tests) in
         let made = unfunded n amount denomination in
-        leads_one rates (Issued (n + 1) (tickets ++ made ∷ [])) (Issued (n + 1) (tickets ++ held_by (Flow t.flow) made ∷ []))
+        leads_one rates (Issued (n + 1) (tickets ++ made ∷ []))
+        (Issued (n + 1) (tickets ++ held_by (Flow t.flow) made ∷ []))
         (planned e (FundFlow n t.name)) (λ l was allowed. record {
           graph =
               ap (λ (g : Graph). fund_flow g n t.name) was.graph
-              ∙ ap (λ (o : Option FlowEntry). drawn cs (with_holder n (Flow (flow_number o)) (tickets ++ made ∷ [])) (n + 1)
+              ∙ ap (λ (o : Option FlowEntry). drawn cs (with_holder n (Flow (flow_number o)) (tickets ++ made ∷ []))
+              (n + 1)
               (map planned_flow ts) nf) named
               ∙ ap (λ tickets. drawn cs tickets (n + 1) (map planned_flow ts) nf)
-              (last_changed (is_numbered n) (held_by (Flow t.flow)) tickets [] made (other_tickets n tickets below) own);
+              (last_changed (is_numbered n) (held_by (Flow t.flow)) tickets [] made (other_tickets n tickets below)
+              own);
           buffers = was.buffers;
           books = was.books;
         })
@@ -492,7 +516,8 @@ module _ (rates : List Rate) (cs : List NameBytes) (ts : List TenantView) (nf : 
         (tickets_below n (n + 1) tickets (omega arith) below) (omega arith, tt) in
         let one = leads_on rates (Issued n tickets) (Issued (n + 1) (tickets ++ made ∷ [])) (Issued (n + 1) all)
         (planned e (MakeTicket amount denomination) ∷ []) (planned e (fund_command g.grantee n) ∷ [])
-        (ticket_made e n amount denomination tickets) (ticket_funds e n amount denomination tickets g.grantee below named.0) in
+        (ticket_made e n amount denomination tickets)
+        (ticket_funds e n amount denomination tickets g.grantee below named.0) in
         let whole = leads_on rates (Issued n tickets) (Issued (n + 1) all)
         (AllIssued (all ++ map planned_ticket (enumerate_from (n + 1) gs)))
         (grant_commands (n, g)) (flat_map grant_commands (enumerate_from (n + 1) gs)) one
@@ -566,7 +591,8 @@ module _ (rates : List Rate) (cs : List NameBytes) (ts : List TenantView) (nf nt
             ∙ last_changed (is_book_of t.flow) (with_hold true) (map planned_book done) (map opened_book rest)
             (opened_book t) (held_before t.flow done below) own
             ∙ ap (λ (held : Bool). map planned_book done
-            ++ record { flow = t.flow; tariff = t.tariff; account = 0; held = held } ∷ map opened_book rest) (sym is_held)
+            ++ record { flow = t.flow; tariff = t.tariff; account = 0; held = held } ∷ map opened_book rest)
+            (sym is_held)
             ∙ next_books t done rest;
       }) l was allowed
 
@@ -580,7 +606,8 @@ module _ (rates : List Rate) (cs : List NameBytes) (ts : List TenantView) (nf nt
       let earlier = below_more (m + 1) t.flow done (omega (arith, past.0)) below in
       let later = each-append (λ (u : TenantView). u.flow < t.flow + 1) done (t ∷ [])
       (below_more (m + 1) (t.flow + 1) done (omega (arith, past.0)) below) (omega arith, tt) in
-      let all = leads_on rates (HeldSo done (t ∷ rest)) (HeldSo (done ++ t ∷ []) rest) (HeldSo (done ++ t ∷ [] ++ rest) [])
+      let all = leads_on rates (HeldSo done (t ∷ rest)) (HeldSo (done ++ t ∷ []) rest)
+      (HeldSo (done ++ t ∷ [] ++ rest) [])
       (hold_commands (i, t)) (flat_map hold_commands (enumerate_from (i + 1) rest))
       (hold_made i t done rest earlier named.0 t.held refl)
       (holds_made rest (i + 1) t.flow (done ++ t ∷ []) later past.1 named.1) in
@@ -624,7 +651,8 @@ named_all p named =
 opened_holds : (rates : List Rate) (p : PlanView) → IsInLimits p
     → AreAllowed rates (empty_link Two) (opening p) → HoldsPlan p (after_all rates (empty_link Two) (opening p))
 opened_holds rates p limits allowed =
-    let ascend = (both (ascends 0 (flows_of p.tenants)) (list_all (λ n. nat_le n 1024) (flows_of p.tenants)) limits.flows).0 in
+    let ascend = (both (ascends 0 (flows_of p.tenants)) (list_all (λ n. nat_le n 1024) (flows_of p.tenants))
+    limits.flows).0 in
     let made = map make_command (numbered p.currencies) in
     let flows = flow_commands p.tenants in
     let grants = flat_map grant_commands (numbered (all_grants p)) in
@@ -637,7 +665,8 @@ opened_holds rates p limits allowed =
     let l1 = after_all rates l0 made in
     let l2 = after_all rates l0 (made ++ flows) in
     let l3 = after_all rates l0 (made ++ flows ++ grants) in
-    let first = currencies_made rates 1 [] p.currencies l0 (record { graph = refl; buffers = refl; books = refl }) one.0 in
+    let first = currencies_made rates 1 [] p.currencies l0 (record { graph = refl; buffers = refl; books = refl })
+    one.0 in
     let second_of : AllOpen rates cs p.tenants (after_all rates l1 flows) =
     subst (λ commands. AreAllowed rates l1 commands → AllOpen rates cs p.tenants (after_all rates l1 commands))
     (sym (flows-one-by-one p.tenants limits.flows))
@@ -647,9 +676,11 @@ opened_holds rates p limits allowed =
     let third_of = grants_made rates cs p.tenants second.0 (map planned_buffer p.tenants) (map opened_book p.tenants)
     (all_grants p) 1 [] tt (named_all p named) l2 second.1.holds two.1 in
     let tickets = map planned_ticket (numbered (all_grants p)) in
-    let third = subst (AllIssued rates cs p.tenants second.0 (map planned_buffer p.tenants) (map opened_book p.tenants) tickets)
+    let third = subst (AllIssued rates cs p.tenants second.0 (map planned_buffer p.tenants) (map opened_book p.tenants)
+    tickets)
     (sym (after_append rates l0 (made ++ flows) grants)) third_of in
-    let fourth_of = holds_made rates cs p.tenants second.0 third.0 tickets (map planned_buffer p.tenants) p.tenants 1 0 [] tt
+    let fourth_of = holds_made rates cs p.tenants second.0 third.0 tickets (map planned_buffer p.tenants) p.tenants 1 0
+    [] tt
     ascend named l3 third.1 three.1 in
     let fourth = subst (HeldSo rates cs p.tenants second.0 third.0 tickets (map planned_buffer p.tenants) p.tenants [])
     (sym (after_append rates l0 (made ++ flows ++ grants) holds)) fourth_of in

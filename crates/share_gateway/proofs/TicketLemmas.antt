@@ -12,7 +12,8 @@ use Rattle.share_base.specs.declared.refusal.Refusal.TheVariants.{NoCurrency, No
 use Rattle.share_model.specs.funding.Graph.{NameBytes}
 use Rattle.share_gateway.specs.declared.plan.Grant.{Grant}
 use Rattle.share_gateway.specs.Plan.{PlanView, IsInLimits, funding_commands, grants_in}
-use Rattle.share_gateway.specs.Opening.{Grantee, grantees, grants_to, grant_to, GrantTo, all_grants_to, all_grants, numbered}
+use Rattle.share_gateway.specs.Opening.{Grantee, grantees, grants_to, grant_to, GrantTo, all_grants_to, all_grants}
+use Rattle.share_gateway.specs.Opening.{numbered}
 use Rattle.share_gateway.specs.GrantTickets.{is_named, ticket_after, ticket_among, grant_ticket, IsTicketOf}
 use Rattle.share_gateway.proofs.OpeningLemmas.{drop-get, drop-past, numbered-get, get-numbered, get-front, get-back}
 use Rattle.share_gateway.proofs.OpeningLemmas.{length-all_grants, both}

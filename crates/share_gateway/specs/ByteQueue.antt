@@ -1,4 +1,4 @@
--- What a contract sees of a queue of bytes.
+-- The view of a queue of bytes in contracts.
 use Rattle.std.specs.Prelude.{ℕ, List}
 
 -- the bytes that are in it, from the front to the back; those that were given last, until more come in; and how many

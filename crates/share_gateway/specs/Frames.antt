@@ -1,4 +1,4 @@
--- What a contract sees of frames of version 2, cut out of a stream that comes in pieces.
+-- The view of frames of version 2 in contracts, cut out of a stream that comes in pieces.
 use Rattle.std.specs.Prelude.{◌≡◌, ⊤, ℕ, List, [], ◌∷◌, ◌++◌}
 use Rattle.share_base.specs.declared.version.Version.TheVariants.{Two}
 use Rattle.share_frame.specs.Reading.{BeginsWithFrame, IsFirstBad}

@@ -1,12 +1,14 @@
 -- Which ticket is a grant's: grants are numbered from 1 for each currency and each tenant, and tickets from 1 over all.
-use Rattle.std.specs.Prelude.{◌≡◌, ◌≤◌, ℕ, ◌+◌, ◌-◌, Bool, true, ◌&&◌, List, [], ◌∷◌, length, nat_le, slice_get, bytes_eq, Some}
+use Rattle.std.specs.Prelude.{◌≡◌, ◌≤◌, ℕ, ◌+◌, ◌-◌, Bool, true, ◌&&◌, List, [], ◌∷◌, length, nat_le, slice_get}
+use Rattle.std.specs.Prelude.{bytes_eq, Some}
 use Rattle.std.specs.Prelude.{Result, Ok, Err, if◌then◌else◌}
 use Rattle.share_base.specs.declared.refusal.Refusal.{Refusal}
 use Rattle.share_base.specs.declared.refusal.Refusal.TheVariants.{NoCurrency, NoTicket}
 use Rattle.share_model.specs.funding.Graph.{NameBytes}
 use Rattle.share_gateway.specs.declared.plan.Grant.{Grant}
 use Rattle.share_gateway.specs.Plan.{CurrencyView, TenantView, PlanView}
-use Rattle.share_gateway.specs.Opening.{Grantee, ToCurrency, ToTenant, grantees, grants_to, grant_to, all_grants, numbered}
+use Rattle.share_gateway.specs.Opening.{Grantee, ToCurrency, ToTenant, grantees, grants_to, grant_to, all_grants}
+use Rattle.share_gateway.specs.Opening.{numbered}
 
 abbrev pub grantee_name : Grantee → NameBytes
 grantee_name (ToCurrency i c) = c.name

@@ -32,7 +32,7 @@ IsNotMade old planned Range = ⊥
 IsNotMade old planned (Refused entry refusal) =
     (entry ≡ planned.entry) × (refusals_in (answer_to old.rates old.live planned.command) ≡ refusal ∷ [])
 
--- the life is none of a book's, or memory was refused
+-- the life is not a book's, or memory was refused
 abbrev pub IsNoEngine : ℕ → NotOpened → Type 0
 IsNoEngine events NoMemory = is_book_life events ≡ true
 IsNoEngine events Range = is_book_life events ≡ false

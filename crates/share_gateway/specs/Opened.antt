@@ -1,4 +1,4 @@
--- What the opening of a plan comes to on a new link of version 2, whose life is long enough.
+-- The outcome of the opening of a plan on a new link of version 2, whose life is long enough.
 use Rattle.std.specs.Prelude.{◌≡◌, ℕ, ◌^◌, Bool, true, false, ◌&&◌, List, [], ◌∷◌, map, flat_map, nat_le, slice_get}
 use Rattle.std.specs.Prelude.{Option, None, Some}
 use Rattle.std.specs.List.{zip}
@@ -32,7 +32,7 @@ opening_events p = map event_of (opening p)
 abbrev pub opening_outcomes : List Rate → PlanView → List Outcome
 opening_outcomes rates p = outcomes rates (empty_state Two) (opening_events p)
 
--- what the link holds after the opening
+-- the contents of the link after the opening
 abbrev pub opened_link : List Rate → PlanView → Live
 opened_link rates p = (run Two rates (opening_events p)).live
 
@@ -71,7 +71,7 @@ pub record IsOpened (rates : List Rate) (p : PlanView) (events : ℕ) {W : Type 
   pub live : link.live ≡ opened_link rates p
   pub run_is : IsRunOf None Two events rates link.live (opening_events p) (opening_outcomes rates p)
 
--- the life is none of a book's; or it is one, and memory was refused, or the first refused entry and its refusal are
+-- the life is not a book's; or it is one, and memory was refused, or the first refused entry and its refusal are
 -- these
 abbrev pub IsNotOpened : List Rate → PlanView → ℕ → NotOpened → Type 0
 IsNotOpened rates p events NoMemory = is_book_life events ≡ true

@@ -50,7 +50,7 @@ flow_commands ts = flat_map (number_commands ts) (range_with_len 1 (greatest_flo
 
 -- ---- Grants
 
--- what grants are to: a currency or a tenant, with its number
+-- the grantee: a currency or a tenant, with its number
 pub data Grantee : Type 0 where
   ToCurrency : ℕ → CurrencyView → Grantee
   ToTenant : ℕ → TenantView → Grantee

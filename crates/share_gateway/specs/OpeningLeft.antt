@@ -1,4 +1,4 @@
--- What is left of an opening, by what is next of each of its sections.
+-- The rest of an opening, by the next item of each of its sections.
 use Rattle.std.specs.Prelude.{◌≡◌, ℕ, zero, suc, ◌+◌, ◌-◌, ◌<◌, ◌^◌, List, [], ◌∷◌, ◌++◌, map, flat_map, length, drop}
 use Rattle.std.specs.Prelude.{slice_get, Option, None, Some}
 use Rattle.std.specs.List.{enumerate_from}
@@ -27,7 +27,7 @@ group_list g = g.first ∷ option_list g.second
 abbrev pub currencies_left : PlanView → ℕ → List PlanCommand
 currencies_left p index = map make_command (enumerate_from (index + 1) (drop index p.currencies))
 
--- so many flow numbers that no tenant has
+-- that many flow numbers that no tenant has
 abbrev pub gap_list : Entry → ℕ → List PlanCommand
 gap_list entry zero = []
 gap_list entry (suc n) = gap_commands entry ++ gap_list entry n

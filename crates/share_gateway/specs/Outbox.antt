@@ -1,5 +1,5 @@
--- What a contract sees of an outbox, and what its calls do. An outbox holds frames on their way to the wire: they leave
--- in the order in which they came, byte by byte, and stay until their last byte is out.
+-- The view of an outbox in contracts, and the effects of its calls. An outbox holds frames on their way to the wire:
+-- they leave in the order in which they came, byte by byte, and stay until their last byte is out.
 use Rattle.std.specs.Prelude.{◌≡◌, ℕ, ◌+◌, ◌-◌, ◌==◌, min, Bool, true, false, ◌&&◌, nat_lt, nat_le, if◌then◌else◌}
 use Rattle.std.specs.Prelude.{List, [], ◌∷◌, ◌++◌, length, map, take, drop}
 use Rattle.std.specs.List.{concat}
@@ -29,7 +29,7 @@ takes o n = nat_lt (length o.frames) 4096 && nat_le (length (frame_bytes o) + n)
 abbrev pub room_of : OutboxView → ℕ
 room_of o = if nat_lt (length o.frames) 4096 then 65536 - length (frame_bytes o) else 0
 
--- a frame was put behind the others
+-- a frame was put after the others
 abbrev pub with_frame : OutboxView → List ℕ → OutboxView
 with_frame o frame = record o { frames = o.frames ++ frame ∷ [] }
 
@@ -54,7 +54,7 @@ first_whole (frame ∷ frames) out allowed = if goes_whole (length frame) out al
 abbrev pub ready_frame : OutboxView → List ℕ
 ready_frame o = first_whole o.frames o.out o.allowed
 
--- so many bytes of these frames are out, and so many may be: a frame that is out whole is gone
+-- that many bytes of these frames are out, and that many may be: a frame that is out whole is gone
 unfoldable pub passed : List (List ℕ) → ℕ → ℕ → OutboxView
 passed [] out allowed = record { frames = []; out = out; allowed = allowed }
 passed (frame ∷ frames) out allowed =
@@ -69,18 +69,18 @@ without_whole o = passed o.frames o.out o.allowed
 abbrev pub send_more : ℕ → OutboxView → OutboxView
 send_more n o = without_whole (record o { out = o.out + n })
 
--- what is left begins at the beginning of its first frame
+-- the rest begins at the beginning of its first frame
 abbrev pub begun_again : OutboxView → OutboxView
 begun_again o = record o { out = 0 }
 
--- a whole frame is taken, if it has room; else the outbox stays as it is. No offer fails.
+-- a whole frame is taken, if it has room; otherwise the outbox stays as it is. No offer fails.
 abbrev pub OutboxAnswers : OutboxView → List ℕ → Answer → OutboxView → Type 0
 OutboxAnswers before piece (Accepted k) after =
     (k ≡ length piece) × (takes before (length piece) ≡ true) × (after ≡ with_frame before piece)
 OutboxAnswers before piece Interrupted after = (takes before (length piece) ≡ false) × (after ≡ before)
 OutboxAnswers before piece Failed after = ⊥
 
--- what it tells: the bytes of its frames, and the length of each
+-- its reports: the bytes of its frames, and the length of each
 abbrev pub outbox_told : OutboxView → Told
 outbox_told o = record { bytes = frame_bytes o; counts = map (λ (frame : List ℕ). length frame) o.frames }
 

@@ -1,4 +1,4 @@
--- What an outbox gave out, over its whole life.
+-- The bytes that an outbox gave out, over its whole life.
 use Rattle.std.specs.Prelude.{◌≡◌, ◌≤◌, ◌<◌, ◌⊎◌, ℕ, ◌+◌, List, [], ◌∷◌, ◌++◌, length, take}
 use Rattle.std.specs.List.{concat}
 use Rattle.share_gateway.specs.Outbox.{OutboxView, empty_outbox, with_frame, allow_more, ready_of, send_more}
@@ -26,7 +26,7 @@ abbrev pub IsWithinFirst : ℕ → List (List ℕ) → Type 0
 IsWithinFirst n [] = n ≡ 0
 IsWithinFirst n (frame ∷ frames) = (n ≡ 0) ⊎ (n < length frame)
 
--- Of these frames the first are gone, and these are left: their bytes were given out whole, in order, and then a proper
+-- The first of these frames are gone, and these are left: their bytes were given out whole, in order, and then a proper
 -- beginning of the first frame that is left.
 pub record IsPart (frames : List (List ℕ)) (given : List ℕ) (left : List (List ℕ)) : Type 0 where
   pub gone : List (List ℕ)

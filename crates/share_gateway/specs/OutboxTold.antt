@@ -1,4 +1,4 @@
--- What an outbox does is what it tells.
+-- An outbox does what its `told` says.
 use Rattle.std.specs.Prelude.{◌≡◌, ℕ, List, [], ◌∷◌, ◌++◌, length, take, Some}
 use Rattle.std.specs.List.{concat}
 use Rattle.std.proofs.Common.{arith, ap, sym, ◌∙◌}
@@ -9,7 +9,7 @@ use Rattle.share_model.specs.declared.writer.Answer.TheVariants.{Accepted, Inter
 use Rattle.share_model.specs.io.Told.{WasTold, with_first}
 use Rattle.share_gateway.specs.Outbox.{OutboxView, OutboxAnswers, with_frame, outbox_told}
 
--- one more frame is told as one more call
+-- one more frame is reported as one more call
 told_more : (o : OutboxView) (piece : List ℕ) → outbox_told (with_frame o piece)
     ≡ with_first (outbox_told o) piece (length piece)
 told_more o piece =

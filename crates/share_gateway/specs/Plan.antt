@@ -1,5 +1,6 @@
--- What a contract sees of a plan, and the limits that a plan is in.
-use Rattle.std.specs.Prelude.{◌≡◌, ℕ, ◌+◌, ◌*◌, Bool, true, not, ◌&&◌, List, [], ◌∷◌, map, length, sum_by, nat_lt, nat_le}
+-- The view of a plan in contracts, and the limits that a plan is in.
+use Rattle.std.specs.Prelude.{◌≡◌, ℕ, ◌+◌, ◌*◌, Bool, true, not, ◌&&◌, List, [], ◌∷◌, map, length, sum_by, nat_lt}
+use Rattle.std.specs.Prelude.{nat_le}
 use Rattle.std.specs.Prelude.{bytes_eq, codes, max, Option, None, Some, if◌then◌else◌}
 use Rattle.std.specs.List.{list_any, list_all}
 use Rattle.share_model.specs.funding.Graph.{NameBytes}
@@ -84,7 +85,7 @@ plan_fault p = first_fault (
     ∷ (not (nat_le (funding_commands p) 65536), TooLong)
     ∷ [])
 
--- what holds of each plan
+-- the invariant of each plan
 pub record IsInLimits (p : PlanView) : Type 0 where
   pub flows : are_flow_numbers (flows_of p.tenants) ≡ true
   pub funding : nat_le (funding_commands p) 65536 ≡ true

@@ -40,7 +40,7 @@ currency_amended index amount c = record c { grants = amend_at index amount c.gr
 abbrev pub tenant_amended : ℕ → ℕ → TenantView → TenantView
 tenant_amended index amount t = record t { grants = amend_at index amount t.grants }
 
--- the grant of an index, from 0, of the currency of a name, or else of the tenant of that name, has this amount
+-- the grant of an index, from 0, of the currency of a name, or otherwise of the tenant of that name, has this amount
 abbrev pub with_amount : NameBytes → ℕ → ℕ → PlanView → PlanView
 with_amount name index amount p =
     if is_some (find (has_name name) p.currencies)

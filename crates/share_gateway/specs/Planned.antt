@@ -1,4 +1,4 @@
--- What a link holds after the opening of a sound plan.
+-- The contents of a link after the opening of a sound plan.
 use Rattle.std.specs.Prelude.{◌≡◌, ℕ, false, map}
 use Rattle.share_model.specs.declared.funding.Holder.{Holder}
 use Rattle.share_model.specs.declared.funding.Holder.TheVariants.{Currency, Flow}
@@ -11,7 +11,7 @@ use Rattle.share_model.specs.link.Live.{Live}
 use Rattle.share_gateway.specs.Plan.{CurrencyView, TenantView, PlanView}
 use Rattle.share_gateway.specs.Opening.{Grantee, ToCurrency, ToTenant, GrantTo, all_grants, numbered}
 
--- what a grant's ticket funds
+-- the holder that a grant's ticket funds
 abbrev pub holder_of : Grantee → Holder
 holder_of (ToCurrency i c) = Currency c.name
 holder_of (ToTenant i t) = Flow t.flow

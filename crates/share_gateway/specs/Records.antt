@@ -1,4 +1,4 @@
--- What a contract sees of the records of a tenant, cut out of a stream that comes in pieces.
+-- The view of the records of a tenant in contracts, cut out of a stream that comes in pieces.
 use Rattle.std.specs.Prelude.{◌≡◌, ◌≢◌, ◌⊎◌, ℕ, true, List, [], ◌∷◌, ◌++◌, length}
 use Rattle.share_model.specs.ingress.Records.{Item, IsItem, record_of, is_name_length, IsBad}
 use Rattle.share_ingress.specs.Found.{NeedsMore}

@@ -5,7 +5,7 @@ use std::alloc::{AllocError, Global};
 use std::marker::Model;
 
 /// Bytes that come in at the back and leave at the front, and are always in one slice. Its memory is made once. Bytes
-/// that are in it are moved only if the room behind them is too small for those that come in.
+/// that are in it are moved only if the room after them is too small for those that come in.
 #[derive(Drop)]
 pub(crate) struct ByteQueue {
     bytes: Vec<u8>,
@@ -77,7 +77,7 @@ impl ByteQueue {
         &self.bytes.as_slice()[self.given..self.start]
     }
 
-    /// Puts bytes, for which there is room, at the back. What was given last is given no more.
+    /// Puts bytes, for which there is room, at the back. The bytes that were given last are not given again.
     pub fn push(&mut self, piece: &[u8])
         requires { length self.old.bytes + length piece.now ≤ self.old.most }
         ensures { self.new ≡ record self.old { bytes = self.old.bytes ++ piece.now; given = [] } }

@@ -14,7 +14,7 @@ use std::marker::Model;
 /// How many bytes of a stream are kept at most: those of the longest frame, and more.
 pub const FRAMES_ROOM: usize = 65536;
 
-/// What the bytes of a stream begin with.
+/// The front of the bytes of a stream.
 #[derive(Clone, Copy, Debug, PartialEq, Eq)]
 pub enum FrameCut {
     /// A frame of version 2, with the numbers of its packet and of its flow's tariff.
@@ -64,7 +64,7 @@ impl Frames {
         count
     }
 
-    /// What the bytes begin with. A frame is taken away, and its payload is lent by `payload` until the next piece
+    /// The front of the bytes. A frame is taken away, and its payload is lent by `payload` until the next piece
     /// comes. `Bad` is answered by each later call too. After `More` most of the room is free, so the next piece is
     /// taken at least in part.
     pub fn next(&mut self) -> FrameCut
@@ -94,9 +94,9 @@ impl Frames {
     }
 }
 
-/// What holds of each stream, however it was cut into pieces. It is the frames of the packets that were given, and then
-/// the bytes that were not given yet. If it is the frames of other packets, and then bytes with no frame in front, the
-/// packets that were given are the first of those. So a stream has one reading.
+/// Laws of each stream, however it was cut into pieces. It is the frames of the packets that were given, and then the
+/// bytes that were not given yet. Suppose that it is also the frames of other packets, and then bytes with no frame in
+/// front. Then the packets that were given are the first of those. So a stream has one reading.
 pub fn streams_are_cut_into_frames()
     ensures frames { (stream : List ℕ) (packets : List Framed) (bytes : List ℕ)
         → Reads stream packets bytes → AreFrames stream packets bytes }

@@ -29,7 +29,7 @@ pub enum NotOpened {
 }
 
 /// A new engine of version 2 with a life of this many events, on which the plan's opening was made. Otherwise, in this
-/// order: `Range` if the events are not 131072 to 2^24; `NoMemory` where memory was refused; or the first entry of the
+/// order: `Range` if the events are not 131072 to 2^24; `NoMemory` if memory was refused; or the first entry of the
 /// plan that was refused, and why. The shelf is dropped then.
 pub fn open_engine<S: Rates + Drop>(
     alloc: Global,
@@ -82,7 +82,7 @@ fn make_all<S: Rates>(engine: &mut Engine<(), S>, plan: &Plan) -> Result<(), Not
     ensures ok { OnOk result (IsOpened engine.old.rates plan.now engine.old.life engine.new) }
     ensures not { IfErr result (IsNotOpened engine.old.rates plan.now engine.old.life) }
 {
-    // What they answer is not used: their contracts say that the tariffs are in range, and the plan is in its limits.
+    // The answers are not used: their contracts say that the tariffs are in range, and the plan is in its limits.
     let _ = engine.events();
     let _ = plan.tenants();
     let mut commands = opening(plan);

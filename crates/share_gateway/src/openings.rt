@@ -40,7 +40,7 @@ struct GrantCursor {
     ticket: u64,
 }
 
-// What is next of each section of an opening: the index of a currency, a flow, a grant, and the index from which on
+// The next item of each section of an opening: the index of a currency, a flow, a grant, and the index from which on
 // tenants are held.
 #[derive(Clone, Copy)]
 struct Sections {
@@ -50,7 +50,7 @@ struct Sections {
     holder: usize,
 }
 
-// What grants are to: a currency or a tenant, with its number from 1.
+// The grantee: a currency or a tenant, with its number from 1.
 #[derive(Clone, Copy)]
 pub(crate) enum Grantee<'a> {
     Currency {

@@ -102,7 +102,7 @@ impl Outbox {
         self.bytes.len() - self.out
     }
 
-    /// Allows that so many bytes more are out, as far as there are frames.
+    /// Allows that many bytes more to be out, as far as there are frames.
     pub fn allow(&mut self, count: usize)
         ensures { self.new ≡ allow_more count self.old }
     {
@@ -128,7 +128,7 @@ impl Outbox {
         &self.bytes.as_slice()[..length]
     }
 
-    /// Says that so many bytes more are out, the first of those that are ready. A frame that is out whole is gone.
+    /// Marks that many bytes more as out, the first of those that are ready. A frame that is out whole is gone.
     pub fn sent(&mut self, count: usize)
         requires { count ≤ length (ready_of self.old) }
         ensures { self.new ≡ send_more count self.old }
@@ -137,7 +137,7 @@ impl Outbox {
         while self.drop_whole() {}
     }
 
-    /// Lets what is left begin at the beginning of the frame that was cut. What was allowed stays allowed.
+    /// Lets the rest begin at the beginning of the frame that was cut. Allowed bytes stay allowed.
     pub fn again(&mut self)
         ensures { self.new ≡ begun_again self.old }
     {
@@ -198,9 +198,9 @@ impl TellingWriter for Outbox {
     }
 }
 
-/// What holds of the whole life of each outbox. What it gives out between one `again` and the next is frames that went
-/// in, whole and in order, and then a proper beginning of the frame after them; it goes on with that frame, from its
-/// beginning; and none is left out. Of what went in, no byte is given out beyond those that were allowed.
+/// Laws of the whole life of each outbox. The bytes between one `again` and the next are frames that went in, whole and
+/// in order, and then a proper beginning of the frame after them. It goes on with that frame, from its beginning, and
+/// none is left out. No byte is given out beyond those that were allowed.
 pub fn outboxes_give_frames_in_order()
     ensures parts { (frames : List (List ℕ)) (allowed : ℕ) (before : List (List ℕ)) (given : List ℕ) (o : OutboxView)
         → History frames allowed before given o → AreParts frames (before ++ given ∷ []) o.frames }

@@ -40,8 +40,8 @@ impl Model for Currency {
     ghost view = { λ c. record { name = c.name; grants = c.grants.items } };
 }
 
-/// A tenant of a plan: the name and the number of its flow, how many packets its buffer holds, its tariff, the grants
-/// that fund it, and whether it is held.
+/// A tenant of a plan: the name and the number of its flow, the limit of its buffer, its tariff, its grants, and
+/// whether it is held.
 #[derive(Drop)]
 pub struct Tenant {
     pub name: Name,

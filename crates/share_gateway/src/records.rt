@@ -18,7 +18,7 @@ use std::marker::Model;
 /// How many bytes of a stream are kept at most: those of the longest record, and more.
 pub const RECORDS_ROOM: usize = 16384;
 
-/// What the bytes of a stream begin with.
+/// The front of the bytes of a stream.
 #[derive(Clone, Copy, Debug, PartialEq, Eq)]
 pub enum Cut {
     /// A record of the tenant.
@@ -76,7 +76,7 @@ impl Records {
         count
     }
 
-    /// What the bytes begin with. A record is taken away, and its payload is lent by `payload` until the next piece
+    /// The front of the bytes. A record is taken away, and its payload is lent by `payload` until the next piece
     /// comes. `Bad` is answered as soon as the first bad field is whole, and again by each later call. After `More`
     /// most of the room is free, so the next piece is taken at least in part.
     pub fn next(&mut self) -> Cut
@@ -127,7 +127,7 @@ fn is_other(name: &Name, first: u8, rest: &[u8]) -> bool
     !is_same
 }
 
-/// What holds of each stream, however it was cut into pieces. The payloads that were given are those of the first
+/// Laws of each stream, however it was cut into pieces. The payloads that were given are those of the first
 /// records of its one reading (`streams_have_one_reading` of share_ingress). Once `More` is answered, or `Bad` for a
 /// field out of its range, they are those of all its records.
 pub fn streams_are_cut_into_records()

@@ -1,4 +1,4 @@
--- What the words of the command line may ask for.
+-- The requests that the words of the command line may make.
 use Rattle.std.specs.Prelude.{◌≡◌, ◌≢◌, ◌≤◌, ⊤, ℕ, List, [], Some, All, Contains}
 use Rattle.clap.specs.Values.{kind_of}
 use Rattle.clap.specs.declared.error.kind.ErrorKind.TheVariants.{OutOfMemory}

@@ -8,14 +8,14 @@ use clap::{Arg, ArgAction, ArgMatches, Command};
 use share_spellings::read_listener;
 use std::alloc::{AllocError, Global};
 
-/// What is wrong with an address.
+/// The fault of an address.
 const NO_ADDRESS: &str =
     "ADDRESS is not one such as 127.0.0.1:7002, [::1]:7002 or unix:/run/stridelink/uplink";
 
-/// What is wrong with lines.
+/// The fault of lines.
 const NO_LINES: &str = "at least one LINE is wanted, and none has a line feed";
 
-// What each word is.
+// The meaning of each word.
 const ADDRESS_HELP: &str = "where the gateway listens for control connections";
 
 const LINE_HELP: &str = "a control line; each is one word of the shell";
@@ -71,7 +71,7 @@ fn are_lines(lines: &[&str]) -> bool
     !lines.is_empty() && lines.iter().all(|line| is_line(line))
 }
 
-/// What the words of `ask` ask for, or what is wrong with them.
+/// The request in the words of `ask`, or the fault of the words.
 pub(crate) fn ask_orders<'a>(
     alloc: Global,
     ask: &ArgMatches<'a>,

@@ -1,4 +1,4 @@
-//! What the words of the command line ask for.
+//! The requests in the words of the command line.
 
 use share_billing::Form;
 use share_settings::Listener;
@@ -18,7 +18,7 @@ pub struct GatewayOrders<'a> {
     pub is_quiet: bool,
 }
 
-/// What a gateway is to be asked.
+/// A request to a gateway.
 #[derive(Debug, Drop)]
 pub struct AskOrders<'a> {
     /// The address as it was given.
@@ -49,7 +49,7 @@ pub struct BillOrders<'a> {
     pub tariffs: BillTariffs<'a>,
 }
 
-/// What the words of the command line ask for.
+/// The request in the words of the command line.
 #[derive(Debug, Drop)]
 pub enum Asked<'a> {
     /// To run a gateway, or to check its file.

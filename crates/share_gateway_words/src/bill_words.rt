@@ -7,7 +7,7 @@ use clap::{Arg, ArgAction, ArgMatches, Command};
 use share_billing::Form;
 use std::alloc::{AllocError, Global};
 
-// What each word is.
+// The meaning of each word.
 const CSV_HELP: &str = "print the bill as CSV, without sums";
 
 const JSON_HELP: &str = "print the bill as a line of JSON, without sums";
@@ -77,7 +77,7 @@ fn tariffs<'a>(bill: &ArgMatches<'a>) -> BillTariffs<'a> {
     }
 }
 
-/// What the words of `bill` ask for.
+/// The request in the words of `bill`.
 pub(crate) fn bill_orders<'a>(
     alloc: Global,
     bill: &ArgMatches<'a>,

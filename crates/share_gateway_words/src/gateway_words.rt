@@ -13,7 +13,7 @@ const MAX_GRACE: u64 = 86400;
 /// The grace if the words give none, in seconds.
 const GRACE: u64 = 10;
 
-// What each word is.
+// The meaning of each word.
 const CHECK_HELP: &str = "check FILE, and open nothing";
 
 const GRACE_HELP: &str = "for how long packets are sent once the end has begun, 0 to 86400";
@@ -62,7 +62,7 @@ pub(crate) fn gateway_command<'a>(alloc: Global) -> Result<Command<'a>, AllocErr
         .arg(file(alloc))
 }
 
-/// What the words of `gateway` ask for.
+/// The request in the words of `gateway`.
 pub(crate) fn gateway_orders<'a>(gateway: &ArgMatches<'a>) -> GatewayOrders<'a> {
     GatewayOrders {
         file: gateway.get_str("file").unwrap_or(""),

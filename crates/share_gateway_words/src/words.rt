@@ -15,13 +15,13 @@ use std::alloc::{AllocError, Global};
 /// The version of the program.
 const VERSION: &str = "0.1.0";
 
-/// What is wrong with a word that is not UTF-8.
+/// The fault of a word that is not UTF-8.
 const NOT_TEXT: &str = "invalid UTF-8 was detected in one or more arguments";
 
-/// What is wrong with a grace out of range.
+/// The fault of a grace out of range.
 const NO_GRACE: &str = "a grace is 0 to 86400 seconds";
 
-/// What is wrong if no subcommand was given. `clap` refuses that, but its contract does not say so.
+/// The fault if no subcommand was given. `clap` refuses that, but its contract does not say so.
 const NO_COMMAND: &str = "gateway, ask or bill is wanted";
 
 // The command line without its subcommands, under the program's name whatever the first word is.
@@ -50,8 +50,9 @@ fn command_line<'a>(alloc: Global) -> Result<Command<'a>, AllocError> {
     with_subcommand(command, bill_command(alloc))
 }
 
-// What the words of `gateway` ask for, or what is wrong with them. `clap` refuses a grace that is out of range; but its
-// contract says so only of the arguments of a command, and not of those of a subcommand, so it is tested once more.
+// The request in the words of `gateway`, or the fault of the words. `clap` refuses a grace that is out of range; but
+// its contract says so only of the arguments of a command, and not of those of a subcommand, so it is tested once
+// more.
 fn gateway_asked<'a>(orders: GatewayOrders<'a>) -> Result<Asked<'a>, &'static str>
     ensures { IfOk result CanBeObeyed }
 {
@@ -62,7 +63,7 @@ fn gateway_asked<'a>(orders: GatewayOrders<'a>) -> Result<Asked<'a>, &'static st
     }
 }
 
-// What the words of `ask` ask for, or what is wrong with them.
+// The request in the words of `ask`, or the fault of the words.
 fn ask_asked<'a>(
     alloc: Global,
     ask: &ArgMatches<'a>,
@@ -76,7 +77,7 @@ fn ask_asked<'a>(
     }
 }
 
-// What the words ask for, or what is wrong with them.
+// The request in the words, or their fault.
 fn found_in<'a>(
     alloc: Global,
     matches: &ArgMatches<'a>,
@@ -91,7 +92,7 @@ fn found_in<'a>(
     }
 }
 
-// What is asked for, or a text that says what is wrong with the words.
+// The request, or a text with the fault of the words.
 fn asked_or_text<'a>(
     command: &mut Command<'a>,
     found: Result<Asked<'a>, &'static str>,
@@ -125,7 +126,7 @@ fn asked_of<'a>(
     }
 }
 
-// What the words ask for.
+// The request in the words.
 fn read_words<'a>(alloc: Global, words: &'a [String]) -> Result<Asked<'a>, AllocError>
     ensures { IfOk result CanBeObeyed }
 {
@@ -175,7 +176,7 @@ fn fault_in(asked: Asked<'_>) -> Option<clap::Error>
     None
 }
 
-// What is wrong with words that have control characters, which are escaped in the text: `clap` writes a wrong word as
+// The fault of words that have control characters, which are escaped in the text: `clap` writes a wrong word as
 // it is.
 fn escaped_fault(
     alloc: Global,
@@ -193,7 +194,7 @@ fn escaped_fault(
     }
 }
 
-// A text about these words. If it tells what is wrong with them, their control characters are escaped.
+// A text about these words. If it names their fault, their control characters are escaped.
 fn readable(alloc: Global, words: &[String], text: clap::Error) -> Result<clap::Error, AllocError>
     requires { kind_of text ≢ ErrorKind.OutOfMemory }
     ensures { IfOk result (λ shown. kind_of shown ≢ ErrorKind.OutOfMemory) }
@@ -214,7 +215,7 @@ fn not_text(alloc: Global) -> Result<clap::Error, AllocError>
     text
 }
 
-/// What the words ask for. `words` is `None` if one of them is not UTF-8, and then the answer is a text that says so.
+/// The request in the words. `words` is `None` if one of them is not UTF-8, and then the answer is a text that says so.
 pub fn parse<'a>(alloc: Global, words: Option<&'a [String]>) -> Result<Asked<'a>, AllocError>
     ensures { IfOk result CanBeObeyed }
 {

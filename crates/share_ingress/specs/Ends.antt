@@ -1,4 +1,4 @@
--- What a contract sees of the two sides of the queue, and what their calls do.
+-- The view of the two sides of the queue in contracts, and the effects of their calls.
 use Rattle.std.specs.Prelude.{◌≡◌, ◌⊎◌, ◌^◌, ℕ, suc, zero, Bool, false, not, ◌&&◌, ◌||◌, nat_le, List, [], ◌∷◌}
 use Rattle.std.specs.Prelude.{◌++◌, ◌+◌, ◌-◌, ◌<◌, length, min, slice_index, Option}
 use Rattle.crossbeam_queue.specs.Fifo.{Held}
@@ -79,7 +79,7 @@ new_intake link capacity workers = record {
   missed = 0;
 }
 
--- What a call did
+-- The effect of a call
 
 abbrev pub with_offer : EndView → List ℕ → List ℕ → EndView
 with_offer e name parcel =

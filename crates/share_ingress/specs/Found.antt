@@ -1,4 +1,4 @@
--- What the bytes of a stream begin with.
+-- The front of the bytes of a stream.
 use Rattle.std.specs.Prelude.{◌≡◌, ◌⊎◌, ℕ, List, [], ◌++◌, length}
 use Rattle.share_model.specs.ingress.Records.{IsItem, record_of, IsCut, IsBad}
 use Rattle.share_ingress.specs.declared.record.Found.{Found}

@@ -63,8 +63,8 @@ pub record Drops {G : Type 0} (told : G → GateCall → G → Type 0) (e : EndV
   pub answered : told asked (queue_full again) last
   pub reason : MayDrop why again left
 
--- items were queued one after the other: the gate was told before each was offered and when it was queued, and between
--- these once for each of its offers that came back; the second number is how often that was in all
+-- items were queued one after the other: the gate was called before each was offered and when it was queued, and
+-- between these once for each of its offers that came back; the second number is how often that was in all
 pub data Queueing {G : Type 0} (told : G → GateCall → G → Type 0) (start : EndView) (first : G)
     : ℕ → ℕ → EndView → G → Type 0 where
   none_queued : Queueing told start first 0 0 start first

@@ -1,4 +1,4 @@
--- What becomes of a queue whose ends are joined to its intake.
+-- The outcome of a queue whose ends are joined to its intake.
 use Rattle.std.specs.Prelude.{◌≡◌, ◌≤◌, ◌<◌, ℕ, suc, zero, Bool, true, false, nat_eq, List, [], ◌∷◌, ◌++◌, length}
 use Rattle.std.specs.Prelude.{Any, sum}
 use Rattle.std.specs.List.{list_any}
@@ -29,7 +29,7 @@ IsTaken popped e = length e.pushed ≤ length (of_worker e.worker popped)
 abbrev pub HasLeft : List Offer → EndView → Type 0
 HasLeft popped e = length (of_worker e.worker popped) < length e.pushed
 
--- what was popped of its worker is all that the end pushed
+-- the items that were popped of its worker are all that the end pushed
 abbrev pub IsWhole : List Offer → EndView → Type 0
 IsWhole popped e = e.pushed ≡ of_worker e.worker popped
 
@@ -38,7 +38,7 @@ abbrev pub tallies_of : ℕ → List Offer → List ℕ
 tallies_of zero os = []
 tallies_of (suc n) os = tallies_of n os ++ length (of_worker (suc n) os) ∷ []
 
--- The ends were joined to the intake. Their workers are closed: no offer can be taken any more. Nothing else of the
+-- The ends were joined to the intake. Their workers are closed: no more offers can be taken. Nothing else of the
 -- intake changed.
 pub record Gathered (i : IntakeView) (ends : List EndView) (after : IntakeView) (tallies : List ℕ) : Type 0 where
   pub there : AllThere i.workers ends

@@ -1,4 +1,4 @@
--- What a contract sees of a reader of records, and what its calls do.
+-- The view of a reader of records in contracts, and the effects of its calls.
 use Rattle.std.specs.Prelude.{◌≡◌, ◌≤◌, ◌⊎◌, ◌+◌, ⊤, ℕ, List, [], Option, None}
 use Rattle.std.specs.Prelude.{Some, IfSome}
 use Rattle.std.specs.Io.KnownBytes.{Consumes, Keeps, prepend_known}
@@ -20,7 +20,7 @@ pub record Reading (R : Type 0) : Type 0 where
   pub turns : ℕ
   pub ended : Option Ended
 
--- the bytes of the stream that are left, if the reader below tells its own
+-- the bytes of the stream that are left, if the reader below gives its own
 abbrev pub left_of : {R : Type 0} → (R → Option (List ℕ)) → Reading R → Option (List ℕ)
 left_of left r = prepend_known r.held (left r.reader)
 

@@ -1,4 +1,4 @@
--- What becomes of jobs that are run in threads of their own.
+-- The outcome of jobs that are run in threads of their own.
 use Rattle.std.specs.Prelude.{◌≡◌, ◌≢◌, ◌⊎◌, ⊤, ℕ, List, [], ◌∷◌, Option}
 use Rattle.share_model.specs.declared.reader.Got.{Got}
 use Rattle.share_ingress.specs.GateCalls.{GateCall}

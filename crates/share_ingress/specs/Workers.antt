@@ -1,4 +1,4 @@
--- What the work of a worker comes to.
+-- The outcome of the work of a worker.
 use Rattle.std.specs.Prelude.{◌≡◌, ℕ, suc, List, [], ◌∷◌, ◌++◌, length, Option, IfSome}
 use Rattle.share_model.specs.declared.ingress.Offer.{Offer}
 use Rattle.share_model.specs.ingress.Queue.{offer}
@@ -19,7 +19,7 @@ Queues bytes items (Over ended) = IsRecords bytes items ended
 Queues bytes items Stopped = (next : Item) × (rest : List ℕ) × Front bytes (items ++ next ∷ []) rest
 Queues bytes items NotStarted = items ≡ []
 
--- the end queued these items, in order, `tally` of them; if the reader tells its bytes, they are those of the bytes
+-- the end queued these items, in order, `tally` of them; if the reader gives its bytes, they are those of the bytes
 -- that were left
 pub record Worked (left : Option (List ℕ)) (before after : EndView) (tally : ℕ) (why : Why) : Type 0 where
   pub items : List Item

@@ -1,8 +1,8 @@
 //! A side of a queue under a rule, with a count of what the queue refused: pops that found nothing, or pushes that
 //! found it full.
 //!
-//! All pops and pushes go through this module. Its functions are generic in the rule and in what a call learns, so none
-//! of them can invent what it tells of the queue, and no other module can raise the count. No contract rules out one
+//! All pops and pushes go through this module. Its functions are generic in the rule and in what a call learns. So none
+//! of them can invent what it says of the queue, and no other module can raise the count. No contract rules out one
 //! more function here that raises it without a call. So the module has `new`, `pop`, `push`, `beside` and `absorb`, and
 //! nothing else.
 ghost use Rattle.std.specs.Prelude.{◌≡◌, List, MatchOption, MatchResult};

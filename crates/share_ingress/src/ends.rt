@@ -12,7 +12,7 @@ ghost use Rattle.share_ingress.specs.Ends.{is_out_of_range};
 mod gather;
 
 use crate::counted::Counted;
-use crate::held::{Beside, Ends, InOrder, OfferQueue, Puts, Takes, Token};
+use crate::protocol::{Beside, Ends, InOrder, OfferQueue, Puts, Takes, Token};
 pub use gather::{Ungathered, WhyNot};
 use share_base::{Name, Parcel, Refusal};
 use share_model::{Offer, QueueView};
@@ -29,7 +29,7 @@ const MAX_WORKERS: usize = 8;
 /// How many offers an end queues at most.
 const MAX_OFFERS: u64 = 1 << 40;
 
-/// What an end answers to an offer.
+/// The answer of an end to an offer.
 #[derive(Drop)]
 pub enum Offered {
     /// It is queued, as the n-th offer of this end.
@@ -39,8 +39,8 @@ pub enum Offered {
 }
 
 /// A worker's end of the queue, the only one that queues this worker's offers. A contract sees the name of the queue,
-/// how many offers it holds at most, the worker, counted from 1, what the end pushed, and how many of its offers a full
-/// queue refused, counted up to 2^64 - 1.
+/// how many offers it holds at most, and the worker, counted from 1. It sees what the end pushed, and how many of its
+/// offers a full queue refused, counted up to 2^64 - 1.
 #[derive(Drop)]
 pub struct IngressEnd {
     queue: Arc<OfferQueue, Global>,
@@ -74,8 +74,9 @@ impl Model for IngressEnd {
 }
 
 /// The link's side of the queue, the only one that pops. A contract sees the name of the queue, how many offers it
-/// holds at most, how many workers it has, what was popped, what the queue held just after the last pop, the workers
-/// whose ends were joined to the intake, and how many pops found the queue empty, counted up to 2^64 - 1.
+/// holds at most, and how many workers it has. It sees what was popped, what the queue held just after the last pop,
+/// and the workers whose ends were joined to the intake. It sees how many pops found the queue empty, counted up to
+/// 2^64 - 1.
 #[derive(Drop)]
 pub struct Intake {
     queue: Arc<OfferQueue, Global>,
@@ -187,9 +188,9 @@ impl IngressEnd {
         self.count
     }
 
-    /// Offers a record to the queue. It is queued as this worker's next offer, or comes back, but only if the queue was
-    /// full at some moment of the call, or this end has queued 2^40 offers. It takes no memory, and may spin while
-    /// another thread is in the middle of a push or a pop.
+    /// Offers a record to the queue. It is queued as this worker's next offer, or comes back. It comes back only if the
+    /// queue was full at some moment of the call, or this end has queued 2^40 offers. It takes no memory, and may spin
+    /// while another thread is in the middle of a push or a pop.
     pub fn offer<R: Wait>(&mut self, rt: &R, name: Name, parcel: Parcel) -> Offered
         ensures { OfferCall self.old name parcel result self.new }
     {
@@ -234,8 +235,8 @@ impl Intake {
         Some(offer)
     }
 
-    /// Gives an end of this queue back as it was, and says that what was popped of its worker is, in order, the
-    /// beginning of what the end pushed. It takes no memory.
+    /// Gives an end of this queue back as it was. The items that were popped of its worker are, in order, the beginning
+    /// of those that the end pushed. It takes no memory.
     pub fn compare(&mut self, end: IngressEnd) -> IngressEnd
         requires { end.link ≡ self.old.link }
         ensures same { (self.new ≡ self.old) × (result ≡ end) }

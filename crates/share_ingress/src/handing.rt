@@ -5,7 +5,7 @@ use std::marker::{Brand, Model, PhantomData};
 use std::sync::{Mutex, Wait};
 use std::thread;
 
-/// What the thread that takes an item knows of it. The thread that hands it over chooses this.
+/// The facts that the thread that takes an item knows of it. The thread that hands it over chooses this.
 pub(crate) trait Known<X> {
     ghost is: { X → Type 0 };
 }

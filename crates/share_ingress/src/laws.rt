@@ -1,4 +1,4 @@
-//! What holds of every stream of records. The function here does nothing. Its contract is a law, and is proved.
+//! Laws of every stream of records. The function here does nothing. Its contract is a law, and is proved.
 ghost use Rattle.std.specs.Prelude.{◌≡◌, ◌<◌, ◌++◌, ℕ, List};
 ghost use Rattle.share_model.specs.declared.ingress.Ended.{Ended};
 ghost use Rattle.share_model.specs.ingress.Records.{Item, Front, IsRecords};

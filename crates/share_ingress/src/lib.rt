@@ -4,8 +4,8 @@
 mod counted;
 mod ends;
 mod handing;
-mod held;
 mod laws;
+mod protocol;
 mod reader;
 mod record;
 mod threads;

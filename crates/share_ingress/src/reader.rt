@@ -22,7 +22,7 @@ const LONGEST: usize = FRAMING + MAX_NAME + MAX_PAYLOAD;
 /// drops once it is no less than the part. So a buffer with room for these and for one read never grows.
 const CARRIED: usize = 2 * LONGEST;
 
-/// What a reader answers.
+/// The answer of a reader.
 #[derive(Drop)]
 pub enum Next {
     /// The item of the next record.
@@ -83,8 +83,8 @@ impl<R: TellingReader> IngressReader<R> {
     /// refused, `Bound` if all reads were used up and one more was needed. Once there is no next item, each further
     /// call gives the same answer, and reads nothing.
     ///
-    /// A record is the length of a name in one byte, the name, the length of a payload in two bytes, high byte first,
-    /// and the payload. An interrupted read is made again; each read is counted.
+    /// A record is the length of a name in one byte, the name, the length of a payload in two bytes, big-endian, and
+    /// the payload. An interrupted read is made again; each read is counted.
     pub fn next(&mut self) -> Next
         ensures again { IfSome self.old.ended (λ ended. (result ≡ Over ended) × (self.new ≡ self.old)) }
         ensures first { self.old.ended ≡ None → Answers R.gives R.left self.old result self.new }

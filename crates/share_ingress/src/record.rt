@@ -1,4 +1,4 @@
-//! What the bytes of a stream begin with.
+//! The front of the bytes of a stream.
 ghost use Rattle.std.specs.Prelude.{◌≡◌, ◌∷◌, ◌++◌, true, length};
 ghost use Rattle.share_base.specs.Name.{is_name};
 ghost use Rattle.share_ingress.specs.Found.{IsFound};
@@ -8,7 +8,7 @@ use share_base::{MAX_NAME, MAX_PAYLOAD, Name};
 /// How many bytes a record has besides its name and its payload.
 pub const FRAMING: usize = 3;
 
-/// What bytes begin with.
+/// The front of bytes.
 pub enum Found {
     /// A whole record with this name and a payload of this length.
     Whole(Name, usize),

@@ -17,7 +17,7 @@ use std::sync::{Arc, Mutex, Wait};
 use std::thread;
 use std::thread::{Promise, PromisedHandle, Scope, Threads};
 
-/// What a worker is to do: whose records it queues, where, and its gate.
+/// The duty of a worker: whose records it queues, where, and its gate.
 #[derive(Drop)]
 pub struct Job<R: TellingReader, G> {
     pub reader: IngressReader<R>,

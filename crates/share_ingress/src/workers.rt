@@ -14,7 +14,7 @@ use share_model::{Ended, TellingReader};
 use std::snapshot::Snapshot;
 use std::sync::Wait;
 
-/// Is told of a worker's work, and may stop it when the queue is full. Items are counted from 1 in each run of a
+/// Hears of a worker's work, and may stop it when the queue is full. Items are counted from 1 in each run of a
 /// worker. `told` is what contracts know of a call.
 pub trait Gate {
     /// The gate before a call, the call with its answer, and the gate after.
@@ -44,7 +44,7 @@ pub enum Why {
     NotStarted,
 }
 
-/// What a worker leaves: its end and its gate, why it stopped, and how many items it queued.
+/// The rest of a worker's work: its end and its gate, why it stopped, and how many items it queued.
 #[derive(Drop)]
 pub struct Done<G> {
     pub end: IngressEnd,

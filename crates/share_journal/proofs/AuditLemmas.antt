@@ -8,15 +8,15 @@ use Rattle.std.proofs.lemmas.List.{map-append, append-nil}
 use mathlib.Core.List.{append_assoc}
 use Rattle.std.proofs.lemmas.Grind.{flat_map-append}
 use Rattle.share_model.specs.io.Printing.{AppendsPart}
-use Rattle.share_model.proofs.lemmas.io.PrintingLaws.{part_after, part_longer}
+use Rattle.share_model.proofs.lemmas.io.PrintingLemmas.{part_after, part_longer}
 use Rattle.share_model.specs.io.Told.{Told}
 use Rattle.share_model.specs.link.View.{LinkView}
 use Rattle.share_model.specs.run.Ends.{TellsRun}
 use Rattle.share_model.specs.run.Events.{writes_in}
 use Rattle.share_model.specs.run.Fold.{State, run, out}
 use Rattle.share_model.specs.text.Audit.{event_line, written_line, audit, IsAmple}
-use Rattle.share_model.proofs.lemmas.text.AuditLaws.{lines-audit, audit-replays}
-use Rattle.share_model.proofs.lemmas.text.LackLaws.{talk-found}
+use Rattle.share_model.proofs.lemmas.text.AuditLemmas.{lines-audit, audit-replays}
+use Rattle.share_model.proofs.lemmas.text.NoMemoryLemmas.{talk-found}
 use Rattle.share_model.specs.text.Talk.{Progress, start_of_script, talk, lines_of, FoundMemory}
 use Rattle.share_model.specs.text.Texts.{line_text}
 use Rattle.share_journal.specs.declared.entry.Entry.{Entry}
@@ -36,7 +36,7 @@ written-append xs ys =
     ∙ ap (flat_map written_line) (map-append event_line (events_in xs) (events_in ys))
     ∙ flat_map-append written_line (map event_line (events_in xs)) (map event_line (events_in ys))
 
--- of these entries, those before the rest were written
+-- those of these entries that are before the rest were written
 pub record WrittenBefore (a now : Option (List ℕ)) (entries rest : List Entry) : Type 0 where
   pub front : List Entry
   pub are : front ++ rest ≡ entries
@@ -80,7 +80,7 @@ written_part a before now entries rest after e is so part =
     (part_longer a now _ (written after)
     (part_after a before now (written so.front) (written_line (event_line e.event)) so.appends part))
 
--- What the audit comes to
+-- The outcome of the audit
 
 pub told_bytes : (o : Option Told) (ks : List ℕ) (s t : State) → s ≡ t → IfSome o (TellsRun t ks)
     → IfSome o (λ r. r.bytes ≡ out s)
@@ -106,7 +106,7 @@ replay told link entries was life lacks longer ample =
       bytes = told_bytes (told link.writer) (writes_in es) _ (run link.live.version link.rates es) state was.tells;
     }
 
--- the same by the text that the audit is answered with, where no line of it says that memory was lacking
+-- the same by the text that the audit is answered with, if no line of it says that memory was lacking
 pub replay_told : {W : Type 0} (told : W → Option Told) (link : LinkView W) (entries : List Entry)
     → IsRunNow told link entries → (life : ℕ) (lacks : List Bool) → link.life ≤ life
     → FoundMemory (talk life link.rates start_of_script lacks (audit_lines_of link entries))

@@ -1,4 +1,4 @@
-pub mod Answered
-pub mod ArrivalLaws
+pub mod ArrivalLemmas
 pub mod AuditLemmas
-pub mod Runs
+pub mod EventAnswerLemmas
+pub mod RunLemmas

@@ -9,7 +9,7 @@ use Rattle.share_journal.specs.declared.entry.Entry.{Entry}
 use Rattle.share_journal.specs.declared.entry.Source.{Source}
 use Rattle.share_journal.specs.declared.entry.Source.TheVariants.{Clerk, Worker, Link}
 
--- the next packet of a worker, where these came before it: its number is one more than it brought of them
+-- the next packet of a worker, if these came before it: its number is one more than it brought of them
 abbrev pub next_of : List Offer → ℕ → List ℕ → List ℕ → Offer
 next_of before worker name body = offer worker (suc (length (of_worker worker before))) name body
 

@@ -1,4 +1,4 @@
--- What a contract sees of a journal, and what is read of its entries.
+-- The view of a journal in contracts, and the readings of its entries.
 use Rattle.std.specs.Prelude.{ℕ, zero, suc, List, [], ◌∷◌, ◌++◌, map, slice_get, Option, None}
 use Rattle.share_base.specs.Body.{unstamped}
 use Rattle.share_base.specs.declared.command.Command.{Command}
@@ -28,7 +28,7 @@ entry_at entries (suc n) = slice_get entries n
 abbrev pub with_entries : JournalView → List Entry → JournalView
 with_entries journal more = record journal { entries = journal.entries ++ more }
 
--- What a list of entries tells
+-- The readings of a list of entries
 
 -- the events
 abbrev pub events_in : List Entry → List Event
@@ -47,7 +47,7 @@ abbrev pub arrival_entry : ℕ → List ℕ → List ℕ → Reply → Entry
 arrival_entry worker flow body reply =
     record { event = Arrived flow (unstamped body); reply = Replied reply; source = Worker worker }
 
--- a turn, or a declared fault, is an event where bytes were accepted or the frame was torn
+-- a turn, or a declared fault, is an event if bytes were accepted or the frame was torn
 abbrev pub turn_entries : Turn → List Entry
 turn_entries (Wrote flow seq k whole) =
     record { event = Written k; reply = Turned (Wrote flow seq k whole); source = Link } ∷ []

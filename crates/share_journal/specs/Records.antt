@@ -1,4 +1,4 @@
--- What a contract sees of a recorder, and what holds of it at every moment.
+-- The view of a recorder in contracts, and its invariant at every moment.
 use Rattle.std.specs.Prelude.{◌≡◌, ◌&&◌, ℕ, Bool, true, false, List, [], ◌∷◌, filter, nat_lt, nat_eq, length, Option}
 use Rattle.std.specs.Prelude.{IfSome, if◌then◌else◌}
 use Rattle.share_base.specs.declared.command.Event.{Event}
@@ -21,8 +21,8 @@ pub record RecorderView (W : Type 0) : Type 0 where
   pub link : LinkView W
   pub entries : List Entry
 
--- the events are a run of a link of this version, with these replies, and the link holds what the run left; and where
--- the writer tells, it holds the bytes of the run, and these are the counts that it accepted, but those of 0
+-- the events are a run of a link of this version, with these replies, and the link holds what the run left; and if
+-- the writer reports, it holds the bytes of the run, and these are the counts that it accepted, but those of 0
 pub record IsRunOf (told : Option Told) (version : Version) (life : ℕ) (rates : List Rate) (live : Live)
     (events : List Event) (replies : List Outcome) : Type 0 where
   pub range : AreInRange rates
@@ -36,7 +36,7 @@ abbrev pub IsRun : Option Told → ℕ → List Rate → Live → List Entry →
 IsRun told life rates live entries =
     IsRunOf told live.version life rates live (events_in entries) (replies_of entries)
 
--- the same of a link and its journal as they are, where `told` says what a writer tells
+-- the same of a link and its journal as they are, where `told` says what a writer reports
 abbrev pub IsRunNow : {W : Type 0} → (W → Option Told) → LinkView W → List Entry → Type 0
 IsRunNow told link entries = IsRun (told link.writer) link.life link.rates link.live entries
 
@@ -62,6 +62,6 @@ are_new link journal =
 abbrev pub made_event : {W : Type 0} → LinkView W → LinkView W → Bool
 made_event old new = nat_lt old.live.counts.events new.live.counts.events
 
--- one entry where the call made an event, and else none
+-- one entry if the call made an event, and otherwise none
 abbrev pub entry_if : Bool → Entry → List Entry
 entry_if made e = if made then e ∷ [] else []

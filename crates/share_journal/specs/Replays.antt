@@ -1,4 +1,4 @@
--- What the audit of a recorder's journal comes to, where it is run as a script.
+-- The outcome of the audit of a recorder's journal that is run as a script.
 use Rattle.std.specs.Prelude.{◌≡◌, ℕ, Bool, List, flat_map, map, Option, IfSome}
 use Rattle.share_model.specs.io.Told.{Told}
 use Rattle.share_model.specs.link.View.{LinkView}
@@ -15,7 +15,7 @@ abbrev pub audit_lines_of : {W : Type 0} → LinkView W → List Entry → List 
 audit_lines_of link entries = lines_of (audit link.live.version (events_in entries))
 
 -- the bytes of the audit are read as its lines; these are answered by the journal's replies, and come to the state of
--- the run, which is what the link holds; and where its writer tells its bytes, they are those of that state
+-- the run, which is what the link holds; and if its writer reports its bytes, they are those of that state
 pub record IsReplayOf {W : Type 0} (told : W → Option Told) (link : LinkView W) (entries : List Entry) (life : ℕ)
     (lacks : List Bool) : Type 0 where
   pub lines : audit_lines_of link entries ≡ map spelling_of (audit_lines link.live.version (events_in entries))

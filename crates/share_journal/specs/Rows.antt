@@ -58,7 +58,7 @@ first_entry = refl
 no_entry : entry_at made 0 ≡ None
 no_entry = refl
 
--- turns that write tell their writes, and a fault and a turn that is no event tell none
+-- turns that write report their writes, and a fault and a turn that is no event report none
 
 turns : List Entry
 turns =

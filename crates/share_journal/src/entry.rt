@@ -1,4 +1,4 @@
-//! What a journal holds of one event.
+//! The entry of one event in a journal.
 ghost use Rattle.std.specs.Prelude.{◌≡◌};
 ghost use Rattle.share_base.specs.declared.command.Event.TheVariants.{Commanded, Arrived};
 ghost use Rattle.share_base.specs.declared.command.Outcome.TheVariants.{Replied, Turned};
@@ -17,7 +17,7 @@ pub enum Source {
     Link,
 }
 
-/// One event of a link, the reply to it, and its source. Of a packet that came it holds the audit copy of the payload.
+/// One event of a link, the reply to it, and its source. For a packet that came it holds the audit copy of the payload.
 #[derive(Drop)]
 pub struct Entry {
     pub event: Event,

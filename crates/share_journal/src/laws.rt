@@ -1,4 +1,4 @@
-//! What holds of every recorder and its journal. A function here does nothing: its contract is a law, which is proved
+//! Laws of every recorder and its journal. A function here does nothing: its contract is a law, which is proved
 //! with it.
 ghost use Rattle.std.specs.Prelude.{◌≡◌, ◌≤◌, ◌++◌, ◌∷◌, [], ℕ, Bool, List};
 ghost use Rattle.share_model.specs.text.Audit.{IsAmple};
@@ -19,23 +19,23 @@ use crate::recorder::Recorder;
 use share_core::{shares_of_calls, tickets_are_shares};
 use share_model::{Rates, TellingWriter};
 
-/// The sentence that this project stands for, of every recorder: whatever was called, whatever each write accepted and
-/// up to the writer's first fault, the replies, the accounts and the bytes are those of one plain fold, in which each
-/// next frame carries the head packet of the flow with the least pass, on tickets computed from scratch.
+/// The promise of this project, for every recorder. Take any calls, and any bytes that each write accepted, up to the
+/// writer's first fault. The replies, the accounts and the bytes are those of one plain fold. Each next frame of the
+/// fold carries the head packet of the flow with the least pass, on tickets computed from scratch.
 pub fn recorders_are_one_fold<W: TellingWriter, S: Rates>(recorder: &Recorder<W, S>)
     ensures { Headline recorder.now.link.live.version recorder.now.link.life recorder.now.link.rates
         (events_in recorder.now.entries) (replies_of recorder.now.entries) recorder.now.link.live
         (W.told recorder.now.link.writer) }
 {
-    // What they answer is not used: their contracts say that the entries are a run, and how long a life is at most.
+    // The answers are not used: their contracts say that the entries are a run, and how long a life is at most.
     let _ = recorder.journal();
     let _ = recorder.engine().events();
 }
 
-/// The audit of a recorder's journal makes its run again, whatever its writer accepted: as a script, on a new link, of
-/// which its first line chooses the version, with the same tariffs and a life that is not shorter, where no line finds
-/// that memory is lacking, it is answered by the journal's replies, one line each, and comes to the state of the run,
-/// so that the link then holds what the recorder's holds, and its tape the bytes that the recorder's writer tells.
+/// The audit of a recorder's journal makes its run again, whatever its writer accepted. It is run as a script on a new
+/// link, of which its first line chooses the version, with the same tariffs and a life that is not shorter. If no line
+/// finds that memory is lacking, it is answered by the journal's replies, one line each, and comes to the state of the
+/// run. The link then holds what the recorder's holds, and its tape the bytes that the recorder's writer reports.
 /// Whether a line lacked memory is seen in the answers: if none of their lines is `no 1 NoMemory`, none did.
 pub fn audits_replay<W: TellingWriter, S: Rates>(recorder: &Recorder<W, S>)
     ensures ample { (life : ℕ) (lacks : List Bool) → recorder.now.link.life ≤ life → IsAmple lacks
@@ -45,12 +45,12 @@ pub fn audits_replay<W: TellingWriter, S: Rates>(recorder: &Recorder<W, S>)
         (audit_lines_of recorder.now.link recorder.now.entries))
         → IsReplayOf W.told recorder.now.link recorder.now.entries life lacks }
 {
-    // What `journal` answers is not used: its contract says that the entries are a run.
+    // The answer of `journal` is not used: its contract says that the entries are a run.
     let _ = recorder.journal();
 }
 
 /// The arrivals of a journal are numbered 1, 2, .. of each worker, whatever its entries. An arrival that is journaled
-/// is its worker's next one; commands, turns and faults are none.
+/// is its worker's next one; commands, turns and faults are not arrivals.
 pub fn arrivals_are_numbered()
     ensures numbers { (entries : List Entry) (worker : ℕ) → Numbered 0 (arrivals_of worker entries) }
     ensures arrival { (entries : List Entry) (worker : ℕ) (name body : List ℕ) (reply : Reply)
@@ -62,15 +62,15 @@ pub fn arrivals_are_numbered()
         → arrivals (entries ++ turn_entries turn) ≡ arrivals entries }
 {}
 
-/// What holds of the shares of a link holds of one with a journal. Take any chain of calls on the recorder: `command`,
-/// `arrive`, `turn` and `tear`, which each make the call of the link, whatever their arguments and answers. No frame is
-/// in part before the first call, and before it and after each call two flows, `one` and `other`, compete, each with
-/// tickets that stay the same. Then the place of `one`, as `Engine::position` reads it, gains in the chain at most the
-/// greater of 0 and this sum: what the place of `other` gains, by how much it was ahead at the start, and the most that
-/// the place of `one` gains in a single call.
+/// The laws of the shares of a link hold of one with a journal. Take any chain of calls on the recorder: `command`,
+/// `arrive`, `turn` and `tear`, with any arguments and answers. Each makes the call of the link. No frame is in part
+/// before the first call. Two flows, `one` and `other`, compete before it and after each call, each with tickets that
+/// stay the same. By `Engine::position`, the gain of `one` in the chain is at most the greater of 0 and a sum of three
+/// terms: the gain of `other`, the distance by which `other` was ahead at the start, and the largest gain of `one` in a
+/// single call.
 ///
-/// What `Engine::tickets` answers of the open flows is together at most the active amount of `base`, and is what the
-/// tickets that fund each are worth together while at most 2^20 of `base` is issued.
+/// The answers of `Engine::tickets` for the open flows sum up to at most the active amount of `base`. While at most
+/// 2^20 of `base` is issued, each is the worth of the tickets that fund the flow.
 pub fn shares_of_recorders<W: TellingWriter, S: Rates>(recorder: &Recorder<W, S>)
     ensures calls { SharesAreKept W.answers recorder.now.link }
     ensures within { TicketsAreWithin recorder.now.link }

@@ -43,8 +43,8 @@ impl<W: TellingWriter, S: Rates> Model for Recorder<W, S> {
 }
 
 impl<W: TellingWriter, S: Rates> Recorder<W, S> {
-    /// A link and its journal, both new and of the same life and version; else both come back. The condition: a writer
-    /// that tells has accepted nothing yet. It takes no memory.
+    /// A link and its journal, both new and of the same life and version; otherwise both come back. The
+    /// condition: a writer that reports has accepted nothing yet. It takes no memory.
     pub fn new(
         engine: Engine<W, S>,
         journal: Journal,
@@ -75,9 +75,9 @@ impl<W: TellingWriter, S: Rates> Recorder<W, S> {
         &self.engine
     }
 
-    /// The journal. The events of its entries are the run of the link: its replies are those of that run, the link
-    /// holds what the run left, and where the writer tells, it holds the bytes of the run, and what it accepted are
-    /// the writes among the events, in order.
+    /// The journal. The events of its entries are the run of the link: its replies are those of that run, and the link
+    /// holds what the run left. If the writer reports, it holds the bytes of the run, and what it accepted are the
+    /// writes among the events, in order.
     pub fn journal(&self) -> &Journal
         ensures entries { result.now
             ≡ record { life = self.now.link.life; version = self.now.link.live.version; entries = self.now.entries } }
@@ -104,7 +104,7 @@ impl<W: TellingWriter, S: Rates> Recorder<W, S> {
         (engine, journal)
     }
 
-    /// The command of a clerk, as `Engine::command` makes it, and its entry where it was an event: where the answer is
+    /// The command of a clerk, as `Engine::command` makes it, and its entry if it was an event: if the answer is
     /// neither `Spent` nor `NoMemory`.
     pub fn command(&mut self, clerk: u64, command: Command) -> Reply
         ensures did { CommandCall self.old.link command result self.new.link }
@@ -126,8 +126,8 @@ impl<W: TellingWriter, S: Rates> Recorder<W, S> {
         reply
     }
 
-    /// The packet of a worker for the flow of a name, as `Engine::arrive` takes it, and its entry where it was an
-    /// event: where the answer is not `Spent`. One copy of the payload goes into the buffer of the flow, and the other
+    /// The packet of a worker for the flow of a name, as `Engine::arrive` takes it, and its entry if it was an
+    /// event: if the answer is not `Spent`. One copy of the payload goes into the buffer of the flow, and the other
     /// into the entry. The payload is one that frames of the link's version carry. It takes no memory.
     pub fn arrive(&mut self, worker: u64, flow: Name, parcel: Parcel) -> Reply
         requires { length parcel ≤ max_payload self.old.link.live.version }
@@ -152,7 +152,7 @@ impl<W: TellingWriter, S: Rates> Recorder<W, S> {
         reply
     }
 
-    /// A turn of the link of at least 1 byte, as `Engine::turn` makes it, and its entry where the writer accepted bytes
+    /// A turn of the link of at least 1 byte, as `Engine::turn` makes it. It has an entry if the writer accepted bytes
     /// or the frame was torn. It takes no memory.
     pub fn turn(&mut self, most: u32) -> Turn
         requires { 1 ≤ most }
@@ -164,7 +164,7 @@ impl<W: TellingWriter, S: Rates> Recorder<W, S> {
         turn
     }
 
-    /// A declared fault, as `Engine::tear` makes it, and its entry where the frame was torn. It takes no memory.
+    /// A declared fault, as `Engine::tear` makes it, and its entry if the frame was torn. It takes no memory.
     pub fn tear(&mut self) -> Turn
         ensures did { TearCall self.old.link result self.new.link }
         ensures entry { self.new.entries ≡ self.old.entries ++ turn_entries result }
@@ -184,7 +184,7 @@ fn is_same_version(one: Version, other: Version) -> bool
     }
 }
 
-// Puts the entry of a call at the end of a journal, where the call made an event.
+// Puts the entry of a call at the end of a journal, if the call made an event.
 fn note_if(journal: &mut Journal, made: bool, entry: Entry)
     requires { length (journal.old.entries ++ entry_if made entry) ≤ journal.old.life }
     ensures { journal.new ≡ with_entries journal.old (entry_if made entry) }
@@ -194,7 +194,7 @@ fn note_if(journal: &mut Journal, made: bool, entry: Entry)
     }
 }
 
-// Puts the entry of a turn at the end of a journal, where the turn was an event.
+// Puts the entry of a turn at the end of a journal, if the turn was an event.
 fn note_turn(journal: &mut Journal, turn: &Turn)
     requires { length (journal.old.entries ++ turn_entries turn.now) ≤ journal.old.life }
     ensures { journal.new ≡ with_entries journal.old (turn_entries turn.now) }

@@ -1,4 +1,4 @@
--- What an array holds at each place.
+-- The items of an array, by their places.
 use Rattle.std.specs.Prelude.{ℕ, Bool, false, List, slice_index_or}
 
 abbrev pub flags_of : List Bool → ℕ → Bool

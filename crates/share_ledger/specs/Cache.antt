@@ -1,4 +1,4 @@
--- What is kept beside the tables.
+-- The values that are kept beside the tables.
 use Rattle.std.specs.Prelude.{◌≡◌, ℕ, List, map, take, length}
 use Rattle.share_model.specs.declared.funding.OpenFlow.{OpenFlow}
 use Rattle.share_model.specs.funding.Graph.{NameBytes, Graph, tickets}

@@ -28,7 +28,7 @@ funding_tickets_at ss p = slice_index_or ss p []
 abbrev pub amount_from : List FundingTicket → ℕ → ℕ
 amount_from ss p = sum_by (λ (s : FundingTicket). if nat_eq p s.from then s.amount else 0) ss
 
--- what a funding ticket is worth: its amount from the place of `base`, else its share of the value of its place
+-- the worth of a funding ticket: its amount from the place of `base`, otherwise its share of the value of its place
 abbrev pub funding_ticket_worth : (ℕ → ℕ) → (ℕ → ℕ) → FundingTicket → ℕ
 funding_ticket_worth value whole s = if nat_eq s.from 0 then s.amount else value s.from * s.amount / whole s.from
 
@@ -54,7 +54,7 @@ AreCounted backs funds awake active whole = (p : ℕ) → p < 65
 abbrev pub AreAwake : (ℕ → Bool) → (ℕ → ℕ) → Type 0
 AreAwake awake whole = (p : ℕ) → 0 < p → p < 65 → awake p ≡ nat_lt 0 (whole p)
 
--- what the funding tickets of a place are worth, if it is awake
+-- the worth of the funding tickets of a place, if it is awake
 abbrev pub worth_at : List (List FundingTicket) → (ℕ → Bool) → (ℕ → ℕ) → (ℕ → ℕ) → ℕ → ℕ
 worth_at ss awake value whole p = if awake p then sum_by (funding_ticket_worth value whole) (funding_tickets_at ss p)
     else 0

@@ -1,4 +1,4 @@
--- What is kept of currencies and flows by their places.
+-- The values that are kept of currencies and flows by their places.
 use Rattle.std.specs.Prelude.{◌≡◌, ◌<◌, ◌+◌, ℕ, Bool, false, not, List, map, sum_by, slice_index_or, if◌then◌else◌}
 use Rattle.share_model.specs.declared.funding.OpenFlow.{OpenFlow}
 use Rattle.share_model.specs.funding.Graph.{NameBytes, Graph}
@@ -24,7 +24,7 @@ pub record HasInputs (n : Net) (backs funds : List Route) (lit : ℕ → Bool) :
   pub counted : AreCounted backs funds (flags_of n.awake.value) (flags_of n.active.value) (numbers_of n.weights.value)
   pub small : AreSmall (numbers_of n.values.value)
 
--- What is awake, the values and the tickets of the flows are theirs too.
+-- The awake places, the values and the tickets of the flows are theirs too.
 pub record IsReady (n : Net) (tickets_of_all : List ℕ) (backs funds : List Route) (lit : ℕ → Bool) : Type 0 where
   pub begun : HasInputs n backs funds lit
   pub awake_is : AreAwake (flags_of n.awake.value) (numbers_of n.weights.value)

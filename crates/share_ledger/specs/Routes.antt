@@ -59,11 +59,11 @@ pub record IsRouteWithin (r : Route) : Type 0 where
 unfoldable pub weight_from : List Route → (ℕ → Bool) → ℕ → ℕ
 weight_from rs flag p = sum_by (λ r. if nat_eq p r.from && flag r.to then r.amount else 0) rs
 
--- what a route carries: its amount from the place of `base`, else its share of the value of its place
+-- the value that a route carries: its amount from the place of `base`, otherwise its share of the value of its place
 abbrev pub carried_by : (ℕ → ℕ) → (ℕ → ℕ) → Route → ℕ
 carried_by value whole r = if nat_eq r.from 0 then r.amount else value r.from * r.amount / whole r.from
 
--- what the routes carry to a place, if it is flagged
+-- the values that the routes carry to a place, if it is flagged
 unfoldable pub value_to : List Route → (ℕ → Bool) → (Route → ℕ) → ℕ → ℕ
 value_to rs flag carry p = sum_by (λ r. if nat_eq p r.to && flag r.to then carry r else 0) rs
 

@@ -1,4 +1,5 @@
--- What stays valid if a few weights, the funding tickets of one holder or the activity of one flow have changed.
+-- The values that stay valid if a few weights, the funding tickets of one holder or the activity of one flow have
+-- changed.
 use Rattle.std.specs.Prelude.{◌≡◌, ◌<◌, ◌≤◌, ◌^◌, ◌%◌, ℕ, Bool, true, false, not, ◌&&◌, ◌||◌, List, min, nat_eq, nat_lt}
 use Rattle.std.specs.Int.{bit_at}
 use Rattle.std.specs.List.{list_any}

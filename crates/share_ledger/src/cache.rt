@@ -1,5 +1,5 @@
-//! What is kept beside the tables: the net of funding tickets, weights and values by place, and the tickets of each
-//! open flow.
+//! The values that are kept beside the tables: the net of funding tickets, weights and values by place, and the
+//! tickets of each open flow.
 ghost use Rattle.std.specs.Prelude.{◌≡◌, ℕ, ◌<◌, ◌≤◌, ◌+◌, ◌^◌, ◌++◌, ◌∷◌, [], take, length, true, false, nat_eq};
 ghost use Rattle.std.specs.Prelude.{slice_index_or, IfOk};
 ghost use Rattle.std.specs.Prelude.{if◌then◌else◌};
@@ -19,7 +19,7 @@ use crate::tables::{MAX_FLOWS, MAX_TICKETS, Tables};
 use std::alloc::{AllocError, Global};
 use std::marker::Model;
 
-/// What fills the room without a route.
+/// The filler of room without a route.
 const NO_ROUTE: Route = Route {
     from: 0,
     to: 0,
@@ -160,11 +160,11 @@ impl Cache {
             return;
         }
         if self.net.is_funded_by_base(place) {
-            self.net.turn(tables, place, active);
+            self.net.set_active(tables, place, active);
             self.net.share(place, &mut self.tickets_of_all);
             return;
         }
-        self.net.turn(tables, place, active);
+        self.net.set_active(tables, place, active);
         self.recompute_changed(tables, 0, place);
     }
 

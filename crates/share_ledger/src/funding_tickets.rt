@@ -17,7 +17,7 @@ pub(crate) struct FundingTicket {
     pub(crate) amount: u32,
 }
 
-/// What fills the room without a funding ticket.
+/// The filler of room without a funding ticket.
 const NO_FUNDING_TICKET: FundingTicket = FundingTicket { from: 0, amount: 0 };
 
 /// The bit of a place. Places are counted modulo 64, so two of them may share a bit.

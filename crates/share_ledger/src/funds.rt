@@ -1,4 +1,4 @@
-//! What commands do to the net: a ticket begins or ceases to fund, or gets another amount.
+//! The effects of commands on the net: a ticket begins or ceases to fund, or gets another amount.
 ghost use Rattle.std.specs.Prelude.{◌≡◌, ◌<◌, ◌≤◌, ◌^◌, ℕ, Bool, length, true, false};
 ghost use Rattle.std.specs.Prelude.{take, if◌then◌else◌};
 ghost use Rattle.share_model.specs.lists.Each.{Each};
@@ -10,16 +10,16 @@ ghost use Rattle.share_ledger.specs.FundingTickets.{IsFundingTicketWithin, fundi
 ghost use Rattle.share_ledger.specs.Nets.{activity_of, ComesToFund, CeasesToFund, GetsAmount, HasInputs};
 ghost use Rattle.share_ledger.specs.Stale.{IsLeft};
 
+use crate::activity::{add_funding_ticket, amount_if, remove_funding_ticket};
 use crate::net::{self, Net};
 use crate::ranks::Edge;
 use crate::routes::Route;
 use crate::tables::Tables;
-use crate::turns::{add_funding_ticket, amount_if, remove_funding_ticket};
 use crate::{chains, ranks};
 
 impl Net {
     /// Whether all currencies have ranks if a ticket of the currency at `from` also backs that at `to`: then no chain
-    /// is too long or leads back. Mostly the kept ranks tell it.
+    /// is too long or leads back. Mostly the kept ranks show it.
     pub(crate) fn has_ranks(&self, from: usize, to: usize) -> bool
         requires within { (p : ℕ) → p < 65 → Each IsFundingTicketWithin (funding_tickets_at self.now.backing.items p) }
         requires places { length self.now.backing.items ≡ 65 }
@@ -70,7 +70,7 @@ impl Net {
             &mut self.order,
         );
         let amount = amount_if(self.awake[route.to], route.amount);
-        net::grow(&mut self.weights, route.from, amount);
+        net::add_one(&mut self.weights, route.from, amount);
     }
 
     // Adds a ticket that funds a flow.
@@ -83,7 +83,7 @@ impl Net {
         tables.is_kept();
         add_funding_ticket(route, &mut self.funding);
         let amount = amount_if(self.active[route.to], route.amount);
-        net::grow(&mut self.weights, route.from, amount);
+        net::add_one(&mut self.weights, route.from, amount);
     }
 
     // Takes out a ticket that backed a currency.
@@ -96,7 +96,7 @@ impl Net {
         tables.is_kept();
         remove_funding_ticket(route, &mut self.backing);
         let amount = amount_if(self.awake[route.to], route.amount);
-        net::shrink(&mut self.weights, route.from, amount);
+        net::subtract_one(&mut self.weights, route.from, amount);
     }
 
     // Takes out a ticket that funded a flow.
@@ -109,7 +109,7 @@ impl Net {
         tables.is_kept();
         remove_funding_ticket(route, &mut self.funding);
         let amount = amount_if(self.active[route.to], route.amount);
-        net::shrink(&mut self.weights, route.from, amount);
+        net::subtract_one(&mut self.weights, route.from, amount);
     }
 
     /// Adds a ticket that backs a currency or funds a flow.
@@ -155,8 +155,8 @@ impl Net {
         add_funding_ticket(&amended, &mut self.backing);
         let before = amount_if(self.awake[route.to], route.amount);
         let after = amount_if(self.awake[route.to], amount);
-        net::shrink(&mut self.weights, route.from, before);
-        net::grow(&mut self.weights, route.from, after);
+        net::subtract_one(&mut self.weights, route.from, before);
+        net::add_one(&mut self.weights, route.from, after);
     }
 
     // Changes the amount of a ticket that funds a flow.
@@ -173,8 +173,8 @@ impl Net {
         add_funding_ticket(&amended, &mut self.funding);
         let before = amount_if(self.active[route.to], route.amount);
         let after = amount_if(self.active[route.to], amount);
-        net::shrink(&mut self.weights, route.from, before);
-        net::grow(&mut self.weights, route.from, after);
+        net::subtract_one(&mut self.weights, route.from, before);
+        net::add_one(&mut self.weights, route.from, after);
     }
 
     /// Changes the amount of a ticket that backs a currency or funds a flow. No rank changes.

@@ -48,7 +48,7 @@ impl Ledger {
         self.is_kept();
     }
 
-    /// Amounts and values that are kept beside the graph and meet the equations of one step are those of the
+    /// Take amounts and values that are kept beside the graph and meet the equations of one step. They are those of the
     /// definitions, and so are the tickets of flows that are computed from them.
     pub fn cached_is_as_defined(&self)
         ensures { CachedIsAsDefined self.now }

@@ -7,6 +7,7 @@
 //! walked: there can be 16^9 of them from `base` to a flow.
 #![tactic(auto)]
 
+mod activity;
 mod bounds;
 mod cache;
 mod chains;
@@ -22,6 +23,5 @@ mod routes;
 mod stale;
 mod tables;
 mod tickets;
-mod turns;
 
 pub use ledger::Ledger;

@@ -15,9 +15,9 @@ ghost use Rattle.share_ledger.specs.FundingTickets.{worth_at, backs_of, funds_of
 use crate::funding_tickets::{FundingTicket, FundingTickets, funding_tickets_at};
 use crate::tables::{MAX_AMOUNT, MAX_FLOWS, PLACES, Tables};
 
-/// The funding tickets of the currencies and of the flows by their places, which flows are active and which currencies
-/// are awake, the weight of each place, now and when all was computed last, the value of each currency, its rank, and
-/// the places listed rank by rank.
+/// The funding tickets of the currencies and of the flows by their places, the flows that are active and the currencies
+/// that are awake. The weight of each place is there twice: as it is, and as it was when all was computed last. Each
+/// currency has its value and its rank, and the places are listed rank by rank.
 #[derive(Drop)]
 pub(crate) struct Net {
     pub(crate) backing: Vec<FundingTickets>,
@@ -32,7 +32,7 @@ pub(crate) struct Net {
 }
 
 /// Adds the amounts of funding tickets to the weights of the places that they come from.
-pub(crate) fn raise(funding_tickets: &[FundingTicket], weights: &mut [u32; PLACES])
+pub(crate) fn add_all(funding_tickets: &[FundingTicket], weights: &mut [u32; PLACES])
     requires within { Each IsFundingTicketWithin funding_tickets.now }
     requires few { length funding_tickets.now ≤ 16 }
     requires small { (p : ℕ) → p < 65 → numbers_of weights.old p ≤ 2 ^ 31 }
@@ -45,7 +45,7 @@ pub(crate) fn raise(funding_tickets: &[FundingTicket], weights: &mut [u32; PLACE
 }
 
 /// Takes the amounts of funding tickets from the weights of the places that they come from.
-pub(crate) fn lower(funding_tickets: &[FundingTicket], weights: &mut [u32; PLACES])
+pub(crate) fn subtract_all(funding_tickets: &[FundingTicket], weights: &mut [u32; PLACES])
     requires within { Each IsFundingTicketWithin funding_tickets.now }
     requires held { (p : ℕ) → p < 65 → amount_from funding_tickets.now p ≤ numbers_of weights.old p }
     ensures { (p : ℕ) → p < 65
@@ -57,7 +57,7 @@ pub(crate) fn lower(funding_tickets: &[FundingTicket], weights: &mut [u32; PLACE
 }
 
 /// Adds to the weight of a place.
-pub(crate) fn grow(weights: &mut [u32; PLACES], place: usize, amount: u32)
+pub(crate) fn add_one(weights: &mut [u32; PLACES], place: usize, amount: u32)
     requires place { place < 65 }
     requires amount { amount ≤ 2 ^ 20 }
     requires small { (p : ℕ) → p < 65 → numbers_of weights.old p ≤ 2 ^ 31 }
@@ -68,7 +68,7 @@ pub(crate) fn grow(weights: &mut [u32; PLACES], place: usize, amount: u32)
 }
 
 /// Takes from the weight of a place.
-pub(crate) fn shrink(weights: &mut [u32; PLACES], place: usize, amount: u32)
+pub(crate) fn subtract_one(weights: &mut [u32; PLACES], place: usize, amount: u32)
     requires place { place < 65 }
     requires held { amount ≤ numbers_of weights.old place }
     ensures { (p : ℕ) → p < 65
@@ -103,7 +103,7 @@ fn worth(funding_ticket: &FundingTicket, values: &[u64; PLACES], weights: &[u32;
     )
 }
 
-/// What these funding tickets are worth together.
+/// The worth of these funding tickets together.
 pub(crate) fn weigh(
     funding_tickets: &[FundingTicket],
     values: &[u64; PLACES],
@@ -153,7 +153,7 @@ pub(crate) fn wake(
 {
     tables.is_kept();
     active[place] = true;
-    raise(funding_tickets_at(funding, place), weights);
+    add_all(funding_tickets_at(funding, place), weights);
 }
 
 /// Makes a flow idle, and takes the amounts of its funding tickets from the weights.
@@ -178,7 +178,7 @@ pub(crate) fn rest(
 {
     tables.is_kept();
     active[place] = false;
-    lower(funding_tickets_at(funding, place), weights);
+    subtract_all(funding_tickets_at(funding, place), weights);
 }
 
 // Makes a currency wake or rest.
@@ -205,11 +205,11 @@ fn flip(
     let funding_tickets = funding_tickets_at(backing, place);
     if awake[place] {
         awake[place] = false;
-        lower(funding_tickets, weights);
+        subtract_all(funding_tickets, weights);
         return;
     }
     awake[place] = true;
-    raise(funding_tickets, weights);
+    add_all(funding_tickets, weights);
 }
 
 // Makes a currency wake or rest if it is awake without a weight, or has a weight and is not awake.

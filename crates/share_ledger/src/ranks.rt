@@ -16,8 +16,8 @@ use crate::tables::{PLACES, Tables};
 /// One more than the greatest rank. It marks a place that has no rank yet.
 const NO_RANK: u8 = 9;
 
-/// One more funding ticket, of the currency at one place for that at another. Of `base` for itself it counts for
-/// nothing.
+/// One more funding ticket, of the currency at one place for that at another. One of `base` for itself counts
+/// for nothing.
 #[derive(Clone, Copy, Debug)]
 pub(crate) struct Edge {
     pub(crate) from: usize,

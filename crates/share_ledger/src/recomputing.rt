@@ -1,4 +1,5 @@
-//! What follows from the funding tickets and the activity: what is awake, the values, and the tickets of the flows.
+//! Values that follow from the funding tickets and the activity: the awake places, the values, and the tickets of
+//! the flows.
 ghost use Rattle.std.specs.Prelude.{◌≡◌, ◌<◌, ◌^◌, ◌||◌, ℕ, length, min, nat_eq, not, true, if◌then◌else◌};
 ghost use Rattle.share_model.specs.lists.Each.{Each};
 ghost use Rattle.share_ledger.specs.Arrays.{flags_of, numbers_of};

@@ -1,4 +1,4 @@
-//! What follows from a few changed weights: only the values and the tickets that rest on them are computed again.
+//! Values that follow from a few changed weights: only the values and the tickets that rest on them are computed again.
 ghost use Rattle.std.specs.Prelude.{◌≡◌, ◌<◌, ◌≤◌, ◌+◌, ◌^◌, ◌&&◌, ◌||◌, ℕ, Bool, None, length, min, nat_eq, not};
 ghost use Rattle.std.specs.Prelude.{◌*◌, IfSome, if◌then◌else◌, true, false};
 ghost use Rattle.std.specs.List.{list_any};

@@ -13,7 +13,7 @@ const PIECE: usize = 4096;
 
 const CALLS: u32 = 16;
 
-/// Standard input. What comes is thrown away.
+/// Standard input. Its bytes are thrown away.
 #[derive(Drop)]
 pub struct Input {
     is_readable: bool,

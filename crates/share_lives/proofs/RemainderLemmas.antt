@@ -10,7 +10,7 @@ use Rattle.std.proofs.lemmas.List.{append-nil, take_all, take_at, take-take, tak
 use Rattle.std.proofs.lemmas.List.Elements.{Contains-append_left, Contains-append_right}
 use Rattle.share_model.specs.funding.Graph.{NameBytes}
 use Rattle.share_model.specs.link.Buffers.{Buffer, buffer_of, count_by, count_in}
-use Rattle.share_model.proofs.lemmas.lists.SumLaws.{same_name}
+use Rattle.share_model.proofs.lemmas.lists.SumLemmas.{same_name}
 use Rattle.share_gateway.specs.Plan.{TenantView}
 use Rattle.share_gateway.specs.PlanChanges.{is_tenant, flow_by}
 use Rattle.share_book.specs.Carry.{left_for, packets_by}

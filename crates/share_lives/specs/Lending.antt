@@ -1,4 +1,4 @@
--- What a life ends as that lends its open book.
+-- The end of a life, which lends its open book.
 use Rattle.std.specs.Prelude.{Option}
 use Rattle.std.specs.Borrow.{Fml, LendsIf, MutBor, RattleType}
 use Rattle.share_tariff.specs.contracts.plain_shelf.PlainShelf as shelf

@@ -1,4 +1,4 @@
--- What a contract sees of the life of a gateway's books, and what its calls do.
+-- The view of the life of a gateway's books in contracts, and the effects of its calls.
 use Rattle.std.specs.Prelude.{◌≡◌, ◌⊎◌, ℕ, ◌+◌, Bool, true, false, not, List, [], ◌++◌, is_some, length, nat_lt}
 use Rattle.std.specs.Prelude.{Option, None, Some}
 use Rattle.std.specs.IoError.{error_kind}
@@ -209,7 +209,7 @@ frame_of NoRoom = None
 frame_of Spent = None
 frame_of Idle = None
 
--- what came of a turn of the open book
+-- the outcome of a turn of the open book
 abbrev pub TurnsBook : BookView → TransitView → Turned → Phase → TransitView → Type 0
 TurnsBook b before turned (Open new) after =
     TurnsInto before b.audited turned after new.audited × (new.plan ≡ b.plan)

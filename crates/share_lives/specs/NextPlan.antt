@@ -1,4 +1,4 @@
--- What a contract sees of a plan that takes the place of the one before.
+-- The view of a plan in contracts that takes the place of the one before.
 use Rattle.std.specs.Prelude.{List}
 use Rattle.share_model.specs.declared.rates.Rate.{Rate}
 use Rattle.share_gateway.specs.Plan.{PlanView}

@@ -7,7 +7,7 @@ use Rattle.share_gateway.specs.Plan.{TenantView}
 use Rattle.share_book.specs.Closed.{ClosedView}
 use Rattle.share_lives.specs.declared.remainder.Remainder.{Remainder}
 
--- so many packets of a tenant, if there are any
+-- that many packets of a tenant, if there are any
 abbrev pub remainder_of : NameBytes → ℕ → List Remainder
 remainder_of tenant packets = if nat_lt 0 packets then record { tenant = tenant; packets = packets } ∷ [] else []
 

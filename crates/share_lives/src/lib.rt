@@ -1,5 +1,5 @@
 //! The lives of a gateway's books, over plain tariffs: how one is opened, how the next takes over what waits in it, and
-//! what is left at the end.
+//! the rest at the end.
 #![tactic(auto)]
 
 mod laws;

@@ -118,7 +118,7 @@ impl Life {
         self.events
     }
 
-    /// What stands in the text of a book.
+    /// The content of the text of a book.
     pub fn kind(&self) -> BookText
         ensures { result ≡ self.now.kind }
     {

@@ -43,8 +43,8 @@ impl Drop for NextBook {
 
 impl NextBook {
     /// A new book over a plan and its tariffs, with a life of this many events and a text of this kind. The error is
-    /// `OutOfMemory` if memory was refused. It is `InvalidInput` if there are not 1 to 8 tariffs, each in its range, if
-    /// the events are not 131072 to 2^24, or if an entry of the plan is refused.
+    /// `OutOfMemory` if memory was refused. It is `InvalidInput` if there are not 1 to 8 tariffs, each in its range. It
+    /// is that too if the events are not 131072 to 2^24, or if an entry of the plan is refused.
     pub(crate) fn open(
         alloc: Global,
         rates: &[Rate],

@@ -184,7 +184,7 @@ impl Stage {
         }
     }
 
-    /// What the open book has drained of its text is no longer there: whether some text was not handed to the disk.
+    /// Whether some text was not handed to the disk. The open book drops the text that it drained.
     pub(crate) fn has_text(&self) -> bool
         ensures { result ≡ nat_lt 0 (length (text_at self.now)) }
     {

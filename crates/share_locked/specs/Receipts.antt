@@ -13,7 +13,7 @@ use Rattle.share_journal.specs.Entries.{command_entry, entry_at}
 use Rattle.share_locked.specs.declared.clerk.Receipt.{Receipt}
 use Rattle.share_locked.specs.Views.{ClerkView, receipt}
 
--- What a journal holds of a clerk
+-- The entries of a clerk in a journal
 
 abbrev pub is_from : ℕ → Source → Bool
 is_from clerk (Clerk n) = nat_eq n clerk

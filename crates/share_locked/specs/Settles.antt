@@ -1,4 +1,4 @@
--- What becomes of a link that is settled after its service.
+-- The outcome of a link that is settled after its service.
 use Rattle.std.specs.Prelude.{◌≡◌, ◌≢◌, ◌&&◌, ◌⊎◌, ◌≤◌, ℕ, Option, Bool, true, false, not, List, length, sum}
 use Rattle.std.specs.Prelude.{is_some, Any}
 use Rattle.share_model.specs.ingress.Queue.{IsWorker}
@@ -67,7 +67,7 @@ Unsettles NoMemory l ends clerks =
     (is_unsent l.recorder.link ≡ false) × AreAgreed l clerks × AllThere l.intake.workers ends
     × Each (IsTaken l.intake.popped) ends
 
--- The ends were joined to the intake, so the queue holds nothing and can get nothing any more. What each worker queued
+-- The ends were joined to the intake, so the queue holds nothing and can get nothing more. What each worker queued
 -- is, whole and in order, its arrivals in the journal, and the tallies count these.
 pub record IsJoined {W : Type 0} (l : LockedView W) (ends : List EndView) (recorder : RecorderView W) (tallies : List ℕ)
     (arrived commands : ℕ) : Type 0 where
@@ -89,15 +89,15 @@ pub record IsSettled {W : Type 0} (l : LockedView W) (ends : List EndView) (cler
   pub ascend : Each (λ (c : ClerkView). Ascend 0 c.receipts) clerks
   pub ends_joined : IsJoined l ends recorder tallies arrived commands
 
--- The audit of a recorder's journal, run as a script in a life that is not shorter, gives its writer's bytes again, if
--- no line of the output says that there was no memory.
+-- The audit of a recorder's journal is run as a script in a life that is not shorter. It gives its writer's bytes
+-- again, if no line of the output says that there was no memory.
 abbrev pub Replays : {W : Type 0} → (W → Option Told) → RecorderView W → Type 0
 Replays told r =
     (life : ℕ) (lacks : List Bool) → r.link.life ≤ life
     → FoundMemory (talk life r.link.rates start_of_script lacks (audit_lines_of r.link r.entries))
     → IsReplayOf told r.link r.entries life lacks
 
--- What each worker queued is what was admitted of it, and the audit gives the writer's bytes.
+-- The items that each worker queued are those that were admitted of it, and the audit gives the writer's bytes.
 pub record IsAccounted {W : Type 0} (told : W → Option Told) (recorder : RecorderView W) (ends : List EndView) : Type 0
   where
     pub queued : Each (IsWhole (arrivals recorder.entries)) ends

@@ -1,4 +1,4 @@
--- What a contract sees of a running link and of its clerks.
+-- The view of a running link and of its clerks in contracts.
 use Rattle.std.specs.Prelude.{ℕ, suc, ◌++◌, List, [], ◌∷◌, nat_le, Option}
 use Rattle.share_base.specs.Refusal.{first_refusal}
 use Rattle.share_base.specs.declared.command.Command.{Command}

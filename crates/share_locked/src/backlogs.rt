@@ -1,4 +1,4 @@
-//! What the thread of a link knows of its workers, and of the buffers that they fill.
+//! The facts that the thread of a link knows of its workers, and of the buffers that they fill.
 use crate::pace::Pace;
 use share_base::FlowNo;
 use share_model::Backlog;
@@ -9,7 +9,7 @@ const MAX_WORKERS: usize = 8;
 /// How many flows of a worker are known at most.
 const FLOWS: usize = 8;
 
-/// A worker fills a flow if one of so many of its last offers was for it.
+/// A worker fills a flow if one of that many of its last offers was for it.
 const WINDOW: u64 = 64;
 
 /// A flow for which a worker made an offer: how full its buffer is, and which of the worker's offers was the last for
@@ -93,8 +93,8 @@ impl Filler {
         }
     }
 
-    // Whether it is to be told that it may make so many offers. It is told rarely, of many at once: of half of those
-    // that its flows take, at most. But it is told at once of any if it fills a flow whose buffer is empty.
+    // Whether it is to hear that it may make that many offers. It hears so rarely, of many at once: of half of those
+    // that its flows take, at most. But it hears at once of any if it fills a flow whose buffer is empty.
     fn is_due(&self, allowed: u64, standing: &Standing, most: u64) -> bool {
         let step = if standing.is_one_empty {
             1
@@ -168,7 +168,7 @@ pub struct Backlogs {
 }
 
 impl Backlogs {
-    /// So many workers, none of which made an offer.
+    /// That many workers, none of which made an offer.
     pub fn new(workers: usize) -> Backlogs {
         Backlogs {
             fillers: [Filler::new(); MAX_WORKERS],
@@ -255,8 +255,8 @@ impl Backlogs {
         ahead.unwrap_or(u64::MAX)
     }
 
-    // How many offers a worker is to be told that it may make, if it is to be told. Nothing is told before its first
-    // offer, which tells what flow it fills.
+    // How many offers a worker is to hear that it may make, if it is to hear of some. It hears of none before its first
+    // offer, which shows what flow it fills.
     fn due(
         &self,
         filler: &Filler,

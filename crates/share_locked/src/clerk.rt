@@ -8,7 +8,7 @@ use share_base::{Command, Refusal, Reply};
 use std::alloc::Global;
 use std::marker::{Model, PhantomData};
 
-/// What a clerk keeps of a command that it made: the number of its entry in the journal, the command, and its reply.
+/// The receipt of a command that a clerk made: the number of its entry in the journal, the command, and its reply.
 #[derive(Clone, Copy, Debug, PartialEq, Eq)]
 pub struct Receipt {
     pub number: u64,

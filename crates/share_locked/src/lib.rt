@@ -12,7 +12,7 @@ mod running;
 mod threads;
 
 pub use clerk::{Clerk, Receipt};
-pub use laws::shares_of_held_calls;
+pub use laws::shares_of_locked_calls;
 pub use link::LinkBrand;
 pub use locked::{Admit, Locked, Settled, Unsettled, WhyUnsettled, settle};
 pub use pace::Pace;

@@ -1,4 +1,4 @@
-//! What is behind the lock of a running link.
+//! The state behind the lock of a running link.
 ghost use Rattle.std.specs.Prelude.{◌≡◌, ◌<◌, ◌≤◌, ◌++◌, [], suc, length, IfOk, IfErr};
 ghost use Rattle.share_base.specs.declared.refusal.Refusal.TheVariants.{NoMemory};
 ghost use Rattle.share_base.specs.declared.version.Version.TheVariants.{Two};
@@ -27,9 +27,9 @@ use std::sync::Wait;
 /// How many clerks a link has at most.
 const MAX_CLERKS: u64 = 8;
 
-/// What is behind the lock of a running link: a recorder, the intake of its queue, and how many clerks were made. Its
+/// The state behind the lock of a running link: a recorder, the intake of its queue, and how many clerks were made. Its
 /// frames are of version 2, which carry every payload of an offer. At every moment the events of the entries are the
-/// run of the link, as `recorder` says, and the arrivals among them are what the intake took, in order.
+/// run of the link, as `recorder` says. The arrivals among them are what the intake took, in order.
 #[derive(Drop)]
 pub struct Locked<W: TellingWriter, S: Rates, L: LinkBrand> {
     recorder: Recorder<W, S>,
@@ -60,7 +60,7 @@ impl<W: TellingWriter, S: Rates, L: LinkBrand> Model for Locked<W, S, L> {
         × (l.recorder.link.live.version ≡ Two) };
 }
 
-/// What `Locked::admit` answers.
+/// The answer of `Locked::admit`.
 #[derive(Clone, Copy, Debug, PartialEq, Eq)]
 pub enum Admit {
     /// The n-th offer of a worker was taken from the queue and came to its flow, with this reply.
@@ -158,7 +158,7 @@ impl<W: TellingWriter, S: Rates, L: LinkBrand> Locked<W, S, L> {
             name,
             parcel,
         } = offer;
-        // What it answers is not used: its contract says that frames of version 2 carry the payload.
+        // The answer is not used: its contract says that frames of version 2 carry the payload.
         let _ = parcel.len();
         let reply = self.recorder.arrive(worker, name, parcel);
         Admit::Admitted { worker, n, reply }

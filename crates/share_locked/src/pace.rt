@@ -1,4 +1,4 @@
-//! What the threads of a running link wake each other by, and how far its workers may go ahead of it.
+//! The signals by which the threads of a running link wake each other, and how far its workers may go ahead of it.
 ghost use Rattle.std.specs.Prelude.{◌≡◌, IfErr};
 ghost use Rattle.share_base.specs.declared.refusal.Refusal.TheVariants.{NoMemory};
 
@@ -71,13 +71,13 @@ impl WorkerPace {
 }
 
 /// The pace of a running link, which its threads share so that none of them polls. The link's thread sleeps while it
-/// has nothing to do, and whoever makes work for it *rings*. A worker sleeps when it has made as many offers as the
+/// has nothing to do, and anyone who makes work for it *rings*. A worker sleeps when it has made as many offers as the
 /// link allows. Workers are numbered from 1, as the ends of the queue are.
 ///
-/// No wake-up is lost. Whoever makes work makes it first, and then looks whether the link's thread lies down; that
-/// thread lies down first, and then looks for work once more before it sleeps. All accesses have one order, so one of
-/// the two sees the other. A worker looks at what it is allowed before each sleep, and a wake-up that comes before its
-/// sleep is kept.
+/// No wake-up is lost. A thread that makes work makes it first, and then looks whether the link's thread lies down;
+/// that thread lies down first, and then looks for work once more before it sleeps. All accesses have one order, so
+/// one of the two sees the other. A worker looks at what it is allowed before each sleep, and a wake-up that comes
+/// before its sleep is kept.
 #[derive(Drop)]
 pub struct Pace {
     link: Sleeper,
@@ -88,8 +88,8 @@ pub struct Pace {
 }
 
 impl Pace {
-    /// The pace of a link with so many workers and a queue of so many places. Each worker may be ahead of the link by
-    /// an equal part of the places, so the queue is never full. `NoMemory` if memory is refused.
+    /// The pace of a link with that many workers and a queue of that many places. Each worker may be ahead of
+    /// the link by an equal part of the places, so the queue is never full. `NoMemory` if memory is refused.
     pub fn new(alloc: Global, places: usize, workers: usize) -> Result<Pace, Refusal>
         ensures { IfErr result (λ e. e ≡ NoMemory) }
     {
@@ -111,7 +111,7 @@ impl Pace {
         self.workers.get(at as usize)
     }
 
-    /// Wakes the link's thread if it lies down. Whoever makes work for the link calls it afterwards.
+    /// Wakes the link's thread if it lies down. Each thread that makes work for the link calls it afterwards.
     pub fn ring(&self) {
         self.link.wake();
     }
@@ -171,7 +171,7 @@ impl Pace {
             .is_none_or(|pace| pace.is_waiting.load(Ordering::SeqCst) != 0)
     }
 
-    // Lets a worker make so many offers.
+    // Lets a worker make that many offers.
     pub(crate) fn allow(&self, worker: u64, offers: u64) {
         if let Some(pace) = self.worker(worker) {
             pace.allowed.store(offers, Ordering::SeqCst);
@@ -179,7 +179,7 @@ impl Pace {
         }
     }
 
-    /// Lets all workers go on, since the link takes nothing any more.
+    /// Lets all workers go on, since the link has stopped taking offers.
     pub fn end(&self) {
         self.over.set();
         for pace in &self.workers {

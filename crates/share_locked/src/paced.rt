@@ -19,10 +19,10 @@ const WRITES: u32 = 64;
 
 /// Follows a link's service.
 pub trait Attendant {
-    /// The link has nothing more to send for now.
+    /// The link has nothing more to send at this moment.
     fn rests(&self);
 
-    /// The link takes nothing any more.
+    /// The link has stopped taking offers.
     fn ends<R: Wait>(&self, rt: &R);
 }
 
@@ -199,9 +199,9 @@ impl<'a, A: Attendant> Pacing for Paced<'a, A> {
     }
 }
 
-/// Serves a link as `run_link` does, but sleeps while it has nothing to do, until somebody rings. Whoever makes work
-/// for the link, or sets the stop, rings afterwards. The workers are in step with the link: each makes its offers as
-/// far as `Pace` allows, and a turn waits for the packets of a worker that is at work and fills a flow whose buffer is
+/// Serves a link as `run_link` does, but sleeps while it has nothing to do, until somebody rings. A thread that makes
+/// work for the link, or sets the stop, rings afterwards. The workers are in step with the link: each makes its offers
+/// as far as `Pace` allows. A turn waits for the packets of a worker that is at work and fills a flow whose buffer is
 /// empty. So a flow whose worker always has more to offer never leaves the race for the link.
 pub fn run_paced_link<W, S, L, R, A>(
     rt: &R,

@@ -57,7 +57,7 @@ pub enum LinkEnd {
     Spent,
 }
 
-// What a round found.
+// The findings of a round.
 #[derive(Clone, Copy, Debug, PartialEq, Eq)]
 enum Round {
     // Something was done, or more may be at once.
@@ -70,7 +70,7 @@ enum Round {
     Spent,
 }
 
-/// How a link's service goes on between its calls. What is given here is that of a link that nobody wakes: it waits for
+/// How a link's service goes on between its calls. The default is that of a link that nobody wakes: it waits for
 /// no packet.
 pub(crate) trait Pacing {
     /// The n-th offer of a worker was taken, with this reply.
@@ -129,9 +129,9 @@ impl Pacing for Timed {
 }
 
 /// Serves a link until it is stopped and has nothing left to do, or until its life is spent. A round admits offers
-/// until the queue is empty, at most as many as the queue has places, and then makes one turn. Each call is a hold of
-/// the lock of its own, so others get the lock between any two calls, and a command waits only for the calls before it.
-/// After some rounds in a row with nothing to do it rests for two milliseconds after each.
+/// until the queue is empty, at most as many as the queue has places, and then makes one turn. Each call locks by
+/// itself, so others get the lock between any two calls. A command waits only for the calls before it. After some
+/// rounds in a row with nothing to do it rests for two milliseconds after each.
 pub fn run_link<W: TellingWriter, S: Rates, L: LinkBrand, R: Wait>(
     rt: &R,
     port: &Port<W, S, L>,

@@ -1,4 +1,4 @@
--- What lines are about.
+-- The subjects of lines.
 use Rattle.std.specs.Prelude.{ℕ, Bool, true, false, List, codes}
 use Rattle.share_messages.specs.declared.kind.Kind.{Kind}
 use Rattle.share_messages.specs.declared.kind.Kind.TheVariants.{Started, Connected, Lost, Unreachable, Downlink}

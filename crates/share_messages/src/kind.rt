@@ -1,11 +1,11 @@
-//! What lines are about.
+//! The subjects of lines.
 ghost use Rattle.std.specs.Prelude.{◌≡◌, ◌<◌};
 ghost use Rattle.share_messages.specs.Kinds.{index_of, is_limited_kind, is_quiet_kind, word_of};
 
 /// How many kinds there are.
 pub const KINDS: usize = 17;
 
-/// What a line is about.
+/// The subject of a line.
 #[derive(Clone, Copy, Debug, PartialEq, Eq)]
 pub enum Kind {
     /// The gateway runs.

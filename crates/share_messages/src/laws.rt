@@ -1,4 +1,4 @@
-//! What holds of lines that come one after the other. The function here does nothing: its contract is a law, and is
+//! Laws of lines that come one after the other. The function here does nothing: its contract is a law, and is
 //! proved.
 ghost use Rattle.std.specs.Prelude.{◌≡◌, ◌<◌, ◌≤◌, ◌+◌, ◌^◌, ◌==◌, ℕ, Bool, true, false, List, length};
 ghost use Rattle.std.specs.List.{list_all};
@@ -7,8 +7,8 @@ ghost use Rattle.share_messages.specs.Limits.{is_silent, limiter_of, new_message
 ghost use Rattle.share_messages.specs.Runs.{after_lines, count_of, printed_of, reported_of};
 ghost use Rattle.share_messages.specs.declared.kind.Kind.{Kind};
 
-/// Of each kind that is limited at most ten lines are printed in a second, and each line is printed, or counted by a
-/// line that is printed or is still to come. Of the other kinds each line is printed.
+/// At most ten lines of each limited kind are printed in a second. Each other line of such a kind is counted by a line
+/// that is printed or is still to come. Each line of the other kinds is printed.
 pub fn limits_are_kept()
     ensures ten_a_second { (is_quiet : Bool) (kind : Kind) (second : ℕ) (before lines : List (Kind × ℕ))
         → is_limited_kind kind ≡ true → list_all (λ l. l.1 == second) lines ≡ true

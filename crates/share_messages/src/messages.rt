@@ -14,10 +14,10 @@ use std::io::Eprint;
 use std::marker::Model;
 use std::time::Clock;
 
-/// What stands for a reason whose text finds no memory.
+/// The text that stands for a reason whose text finds no memory.
 const NO_REASON: &str = "no memory for the reason";
 
-/// What becomes of a line.
+/// The outcome of a line.
 #[derive(Clone, Copy, Debug, PartialEq, Eq)]
 pub struct Decision {
     /// How many lines of its kind were left out before it, and were not reported yet.
@@ -73,7 +73,7 @@ impl Messages {
         }
     }
 
-    /// What becomes of a line of this kind in this second.
+    /// The outcome of a line of this kind in this second.
     pub fn decide(&mut self, kind: Kind, second: u64) -> Decision
         ensures decision { result ≡ decision_of kind second self.old }
         ensures after { self.new ≡ after_line kind second self.old }
@@ -109,7 +109,7 @@ impl Messages {
     }
 
     /// Prints a line, unless it is left out. If lines of its kind were left out before, a line that says how many is
-    /// printed first. What cannot be printed is dropped.
+    /// printed first. A line that cannot be printed is dropped.
     pub fn say<R: Eprint + Clock, D: Display + Drop>(
         &mut self,
         rt: &R,

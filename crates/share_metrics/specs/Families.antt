@@ -54,7 +54,7 @@ gateway_name gateway.DownlinkFrames = codes "stridelink_downlink_frames"
 gateway_name gateway.DownlinkBytes = codes "stridelink_downlink_bytes"
 gateway_name gateway.DownlinkStrangers = codes "stridelink_downlink_strangers"
 
--- what the family says
+-- the lines of the family
 abbrev pub gateway_help : GatewayFamily → List ℕ
 gateway_help gateway.Book = codes "The number of the open book"
 gateway_help gateway.BookEvents = codes "Events of the open book"
@@ -163,7 +163,7 @@ tenant_name tenant.Connections = codes "stridelink_tenant_connections"
 tenant_name tenant.DroppedPackets = codes "stridelink_tenant_dropped_packets"
 tenant_name tenant.LostPackets = codes "stridelink_tenant_lost_packets"
 
--- what the family says
+-- the lines of the family
 abbrev pub tenant_help : TenantFamily → List ℕ
 tenant_help tenant.Tickets = codes "Tickets of the tenant"
 tenant_help tenant.Held = codes "1 if the tenant is held, and 0 if not"

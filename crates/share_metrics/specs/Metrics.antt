@@ -4,7 +4,8 @@ use Rattle.std.specs.Prelude.{if◌then◌else◌}
 use Rattle.share_status.specs.declared.status.Status.{Status}
 use Rattle.share_status.specs.declared.status.TenantStatus.{TenantStatus}
 use Rattle.share_metrics.specs.Families.{gateway_families, gateway_help, gateway_name, gateway_value}
-use Rattle.share_metrics.specs.Families.{is_gateway_counter, is_tenant_counter, tenant_families, tenant_help, tenant_name, tenant_value}
+use Rattle.share_metrics.specs.Families.{is_gateway_counter, is_tenant_counter, tenant_families, tenant_help}
+use Rattle.share_metrics.specs.Families.{tenant_name, tenant_value}
 use Rattle.share_web.specs.Parts.{three}
 use Rattle.share_metrics.specs.declared.family.GatewayFamily.{GatewayFamily}
 use Rattle.share_metrics.specs.declared.family.TenantFamily.{TenantFamily}

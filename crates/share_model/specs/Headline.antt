@@ -1,7 +1,7 @@
--- The promise of this project, said of a list of events: for every list of commands, arrivals and link turns, whatever
--- each write accepts and up to the writer's first fault, the replies, accounts and bytes written are those of one plain
--- fold, in which each next frame carries the head packet of the flow with the least pass, on tickets computed from
--- scratch.
+-- The promise of this project, said of a list of events. Take every list of commands, arrivals and link turns, and any
+-- bytes that each write accepts, up to the writer's first fault. The replies, accounts and bytes written are those of
+-- one plain fold. Each next frame of the fold carries the head packet of the flow with the least pass, on tickets
+-- computed from scratch.
 use Rattle.std.specs.Prelude.{◌≡◌, ◌<◌, ◌≤◌, ℕ, List, [], ◌∷◌, ◌++◌, length, take, find, filter, nat_lt, Option, None}
 use Rattle.std.specs.Prelude.{Some, IfSome}
 use Rattle.share_base.specs.declared.command.Event.{Event}
@@ -65,7 +65,7 @@ pub record Fails (before last : State) : Type 0 where
 -- The sentence
 
 -- the version of a link's frames, its life and its tariffs; the events that it made, in their order; the replies to
--- them; what the link holds after them; and what its writer tells, if it tells anything
+-- them; what the link holds after them; and what its writer reports, if it reports anything
 pub record Headline (version : Version) (life : ℕ) (rates : List Rate) (events : List Event) (replies : List Outcome)
     (l : Live) (told : Option Told) : Type 0 where
   -- commands and arrivals came in any order; writes accepted any counts, and none came after a fault

@@ -1,4 +1,4 @@
--- Readers and writers that tell what they gave and took.
+-- Readers and writers that report what they gave and took.
 pub mod Calls
 pub mod Counts
 pub mod Given

@@ -41,7 +41,7 @@ impl CodedCounts {
         }
     }
 
-    /// Puts a count behind the others. An error if memory is refused: then nothing changed.
+    /// Puts a count after the others. An error if memory is refused: then nothing changed.
     pub(crate) fn push(&mut self, count: usize) -> Result<(), AllocError>
         ensures ok { OnOk result (self.new ≡ self.old ++ count ∷ []) }
         ensures err { OnErr result (self.new ≡ self.old) }

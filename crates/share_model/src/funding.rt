@@ -22,7 +22,7 @@ pub struct Ticket {
     pub holder: Holder,
 }
 
-/// What funding knows of an open flow. It is active while its buffer holds a packet.
+/// The facts about an open flow that funding knows. It is active while its buffer holds a packet.
 #[derive(Clone, Copy, Debug)]
 pub struct OpenFlow {
     pub number: FlowNo,

@@ -28,7 +28,8 @@ pub struct Offer {
     pub parcel: Parcel,
 }
 
-/// What an end of the queue, or its intake, knows of the queue. It is for contracts only: no value of it is made.
+/// The view that an end of the queue, or its intake, has of the queue. It is for contracts only: no value of it is
+/// made.
 #[derive(Drop)]
 pub struct QueueView {
     /// It is the intake, the only one that pops.
@@ -36,11 +37,11 @@ pub struct QueueView {
     /// It is the end of a worker, the only one that pushes that worker's offers.
     pub sends: bool,
     pub worker: u64,
-    /// What this end pushed.
+    /// The items that this end pushed.
     pub pushed: LinkedList<Offer>,
-    /// What the intake popped.
+    /// The items that the intake popped.
     pub popped: LinkedList<Offer>,
-    /// What the queue held just after the last pop.
+    /// The items in the queue just after the last pop.
     pub ahead: LinkedList<Offer>,
     /// How many ends were made.
     pub made: u64,

@@ -1,4 +1,4 @@
-//! What holds of every run of a link. Each function here does nothing. Its contract is a law, and is proved.
+//! Laws of every run of a link. Each function here does nothing. Its contract is a law, and is proved.
 ghost use Rattle.std.specs.Prelude.{◌≡◌, ◌≢◌, ◌<◌, ◌≤◌, ◌+◌, ◌^◌, ℕ, Bool, true, List, []};
 ghost use Rattle.std.specs.Prelude.{◌∷◌, ◌++◌};
 ghost use Rattle.std.specs.Prelude.{length, find, filter, nat_eq, nat_lt, None, Some, is_some, codes};
@@ -63,9 +63,9 @@ pub fn events_are_counted()
 {}
 
 /// The bytes of a run are the frames of the packets that it wrote whole, and the beginning of one more. In version 1
-/// each frame has numbers from 1 to 2^32 - 1 and a payload of 1 to 1490 bytes; in version 2 its payload is 1 to 9000
+/// each frame has numbers from 1 to 2^32 - 1 and a payload of 1 to 1490 bytes. In version 2 its payload is 1 to 9000
 /// bytes, and it has the number of its flow's tariff, 1 to 8. The same bytes are the frames of no other list of
-/// packets, nor, in version 2, of packets under other tariffs; and two bytes tell the version.
+/// packets, nor, in version 2, of packets under other tariffs. Two bytes give the version.
 pub fn bytes_tell_packets()
     ensures frames { (version : Version) (life : ℕ) (rates : List Rate) (events : List Event) → life < 2 ^ 32
         → AreInRange rates → MayRun version life rates events
@@ -172,10 +172,10 @@ pub fn bounds_of_runs()
         → MayRun version life rates events → (run version rates events).live.counts.past < 2 ^ 54 }
 {}
 
-/// Take a stretch of the events of a run that begins with no frame in part, and two flows, `one` and `other`, that
-/// compete with the same tickets before its first event and after each. What is added to the pass of `one` in it, for
-/// whole frames and at a fault, is at most the greater of 0 and this sum: what is added to the pass of `other`, by how
-/// much that pass was ahead at the start, and the largest single charge to `one`.
+/// Take a stretch of the events of a run that begins with no frame in part. Two flows, `one` and `other`, compete with
+/// the same tickets before its first event and after each. Whole frames and a fault raise the pass of `one` in it.
+/// These raises together are at most the greater of 0 and a sum of three terms: those of the pass of `other`, the
+/// distance by which that pass was ahead at the start, and the largest single charge to `one`.
 pub fn shares_of_runs()
     ensures { (version : Version) (life : ℕ) (rates : List Rate) (before stretch : List Event)
         (one other one_tickets other_tickets : ℕ) → AreInRange rates
@@ -187,11 +187,11 @@ pub fn shares_of_runs()
         (stretch_charges one other rates (run version rates before) stretch) }
 {}
 
-/// Take any chain of calls on one link: commands, arrivals, turns and declared faults, whatever their arguments and
-/// answers, whether they make an event or none. No frame is in part before the first call. Before it, and after each
-/// call, two flows, `one` and `other`, compete, and the tickets of each stay the same throughout. Then, by what
-/// `position` answers, the place of `one` gains in the chain at most the greater of 0 and this sum: what the place of
-/// `other` gains, by how much it was ahead at the start, and the most that the place of `one` gains in a single call.
+/// Take any chain of calls on one link: commands, arrivals, turns and declared faults. Their arguments and answers may
+/// be any, and each makes an event or none. No frame is in part before the first call. Two flows, `one` and `other`,
+/// compete before it and after each call, and the tickets of each stay the same. By the answers of `position`, the gain
+/// of `one` in the chain is at most the greater of 0 and a sum of three terms: the gain of `other`, the distance by
+/// which `other` was ahead at the start, and the largest gain of `one` in a single call.
 pub fn shares_of_calls<W: TellingWriter>()
     ensures { (first : LinkView W) → AreInRange first.rates → Sound first.life first.rates first.live
         → SharesAreKept W.answers first }
@@ -206,8 +206,8 @@ pub fn tickets_are_uncapped_of_runs()
         ≡ uncapped_tickets (run version rates events).live.graph flow }
 {}
 
-/// The promise, `Headline`, holds of every run: for whoever gives the replies of the fold, holds what it comes to, and
-/// tells its bytes and the counts of its writes. The laws of recorders and of scripts say that links do.
+/// The promise, `Headline`, holds of every run: for anyone who gives the replies of the fold, holds what it comes
+/// to, and reports its bytes and the counts of its writes. The laws of recorders and of scripts say that links do.
 pub fn runs_are_one_fold()
     ensures { (version : Version) (life : ℕ) (rates : List Rate) (events : List Event) (told : Told)
         → life ≤ max_life → AreInRange rates → MayRun version life rates events
@@ -216,12 +216,12 @@ pub fn runs_are_one_fold()
         (run version rates events).live (Some told) }
 {}
 
-/// A script is a run of its events: each line makes one or none. It is of version 2 exactly where its first line is
-/// `audit 2`, and else of version 1. The events may follow one another, and the state and the writes of the script are
-/// those of the run. A line is answered with the text of its event's outcome, or with a text of its own if it made
-/// none, which is empty for a first line that chooses the version. `report` makes none: wherever it is, its text is the
-/// report of what the lines before it left. So every law of runs holds of every script, whatever its lines, and
-/// wherever memory was lacking.
+/// A script is a run of its events: each line makes one or none. It is of version 2 if and only if its first line is
+/// `audit 2`, and otherwise of version 1. The events may follow one another, and the state and the writes of the
+/// script are those of the run. A line is answered with the text of its event's outcome, or with a text of its own
+/// if it made none, which is empty for a first line that chooses the version. `report` makes none: wherever it is,
+/// its text is the report of what the lines before it left. So every law of runs holds of every script, whatever
+/// its lines, and whichever of them lack memory.
 pub fn scripts_are_runs()
     ensures follow { (life : ℕ) (rates : List Rate) (lacks : List Bool) (lines : List (List ℕ))
         → AreInRange rates

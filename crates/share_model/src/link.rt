@@ -1,4 +1,4 @@
-//! What a link keeps beside its funding, its queue and its buffers, and what is read of it.
+//! The state of a link beside its funding, its queue and its buffers, and its readings.
 
 use share_base::{FlowNo, Name};
 
@@ -18,7 +18,7 @@ pub struct Part {
     pub out: u32,
 }
 
-/// What a link counted in its life.
+/// The counts of a link in its life.
 #[derive(Clone, Copy, Debug)]
 pub struct Counts {
     /// Events, refused commands and arrivals among them.
@@ -46,7 +46,7 @@ pub enum LinkState {
     Torn,
 }
 
-/// What a link counted and what it holds now.
+/// The counts of a link and its contents at this moment.
 #[derive(Clone, Copy, Debug, PartialEq, Eq)]
 pub struct Totals {
     /// Units that were charged.
@@ -98,7 +98,7 @@ pub enum Standing {
     Held,
 }
 
-/// What a report says of an open flow.
+/// The line of an open flow in a report.
 #[derive(Clone, Copy, Debug)]
 pub struct FlowLine {
     pub flow: FlowNo,

@@ -1,4 +1,4 @@
-//! What the link knows of tariffs: what a frame costs, and how an account is posted.
+//! The tariffs that the link knows: what a frame costs, and how an account is posted.
 ghost use Rattle.std.specs.Prelude.{◌≡◌, ◌<◌, ◌≤◌, ◌^◌, List, IsTrue, is_some};
 ghost use Rattle.share_model.specs.link.Tariff.{rate_at, rate_of, units_of, post_of, AreInRange};
 

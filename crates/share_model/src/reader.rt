@@ -1,11 +1,11 @@
-//! Readers that tell which bytes they gave.
+//! Readers that report which bytes they gave.
 ghost use Rattle.std.specs.Prelude.{◌≡◌, ◌≢◌, ◌<◌, ℕ, List, Option, length};
 ghost use Rattle.std.specs.IoError.{error_kind};
 ghost use Rattle.share_model.specs.io.Given.{Gives};
 
 use std::io::{Error, ErrorKind, Read};
 
-/// What one read call answered.
+/// The answer of one read call.
 #[derive(Clone, Copy, Debug, PartialEq, Eq)]
 pub enum Got {
     /// This many bytes, at least 1, are at the front of the buffer.
@@ -18,7 +18,7 @@ pub enum Got {
     Failed,
 }
 
-/// A reader that fills a buffer in one call. `left` is what contracts know of the bytes to come. It is `None` where
+/// A reader that fills a buffer in one call. `left` is what contracts know of the bytes to come. It is `None` if
 /// nothing is known, as for a socket.
 pub trait TellingReader {
     ghost use Rattle.share_model.specs.declared.reader.Got.{Got};
@@ -37,12 +37,12 @@ pub trait TellingReader {
         → gives before buffer got after → Gives (left before) buffer got (left after) };
 }
 
-/// Wraps a reader of std, of which is known what its own contract tells. It makes one call of `read` with the whole
-/// buffer. An error of the kind `Interrupted` is told as an interruption, any other as a failure.
+/// Wraps a reader of std, of which is known what its own contract says. It makes one call of `read` with the whole
+/// buffer. An error of the kind `Interrupted` is reported as an interruption, any other as a failure.
 #[derive(Drop)]
 pub struct PlainReader<R>(pub R);
 
-// What a failed read call is told as.
+// The report of a failed read call.
 fn got_by_error(error: &Error) -> Got
     ensures interrupted { error_kind error.now ≡ ErrorKind.Interrupted → result ≡ Got.Interrupted }
     ensures failed { error_kind error.now ≢ ErrorKind.Interrupted → result ≡ Got.Failed }

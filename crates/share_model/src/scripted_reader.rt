@@ -8,7 +8,7 @@ use std::marker::Model;
 
 /// A reader over memory that gives the answers of a list in turn, one a call, and then all bytes that are left. A count
 /// is cut to the bytes that are left and to the buffer; 0 is taken as 1. Once no byte is left, a count is the end. An
-/// `End` of the list is none while bytes are left: it gives as many of them as the buffer takes.
+/// `End` of the list is no end while bytes are left: it gives as many of them as the buffer takes.
 #[derive(Drop)]
 pub struct ScriptedReader<'a> {
     script: Vec<Got>,
@@ -39,7 +39,7 @@ impl<'a> ScriptedReader<'a> {
     }
 }
 
-// So many bytes, or the end if none is left.
+// That many bytes, or the end if none is left.
 fn bytes_or_end(left: usize, room: usize, count: usize) -> Got
     requires { 0 < room }
     ensures value { result ≡ bytes_or_end left room count }
@@ -52,7 +52,7 @@ fn bytes_or_end(left: usize, room: usize, count: usize) -> Got
     }
 }
 
-// The script's answer, at this place of the script, where so many bytes are left and have room.
+// The script's answer, at this place of the script, if that many bytes are left and have room.
 fn next_got(script: &[Got], at: usize, left: usize, room: usize) -> Got
     requires { 0 < room }
     ensures value { result ≡ next_got (drop at script.now) left room }

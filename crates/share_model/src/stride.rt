@@ -9,12 +9,12 @@ pub struct Client {
     pub stride: u64,
     /// By how much its pass was ahead of the global pass when it ceased to compete, and what it was charged since.
     pub remain: i128,
-    /// What it was charged, on the scale of the global pass, while it competes.
+    /// Its charges, on the scale of the global pass, while it competes.
     pub pass: i128,
     pub competes: bool,
 }
 
-/// What is read of a client.
+/// The readings of a client.
 #[derive(Clone, Copy, Debug, PartialEq, Eq)]
 pub struct Position {
     pub competing: bool,
@@ -25,7 +25,7 @@ pub struct Position {
     pub place: i128,
 }
 
-/// What all clients of a stride queue share.
+/// The values that all clients of a stride queue share.
 #[derive(Clone, Copy, Debug, PartialEq, Eq)]
 pub struct GlobalPart {
     /// The tickets of the clients that compete.

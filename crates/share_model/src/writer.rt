@@ -1,11 +1,11 @@
-//! Writers that tell which bytes they took.
+//! Writers that report which bytes they took.
 ghost use Rattle.std.specs.Prelude.{◌≡◌, ◌≢◌, ℕ, List, Option, None};
 ghost use Rattle.std.specs.IoError.{error_kind};
 ghost use Rattle.share_model.specs.io.Told.{Told, WasTold};
 
 use std::io::{Error, ErrorKind, Write};
 
-/// What one write call answered.
+/// The answer of one write call.
 #[derive(Clone, Copy, Debug, PartialEq, Eq)]
 pub enum Answer {
     /// This many bytes, from the front of the piece, were taken.
@@ -16,7 +16,7 @@ pub enum Answer {
     Failed,
 }
 
-/// A writer that is offered one piece in one call. `told` is what contracts know of its bytes. It is `None` where
+/// A writer that is offered one piece in one call. `told` is what contracts know of its bytes. It is `None` if
 /// nothing is known, as for a socket.
 pub trait TellingWriter {
     ghost use Rattle.share_model.specs.declared.writer.Answer.{Answer};
@@ -35,8 +35,8 @@ pub trait TellingWriter {
 }
 
 /// Wraps a writer of std. Its `answers` are what std's contract says of the writer's contents. Its `told` is `None`,
-/// since std says nothing of the count of each call. It makes one call of `write` with the whole piece, and reports an
-/// error of the kind `Interrupted` as an interruption, any other as a failure.
+/// since std says nothing of the count of each call. It makes one call of `write` with the whole piece. It reports an
+/// error of the kind `Interrupted` as an interruption, and any other as a failure.
 #[derive(Drop)]
 pub struct PlainWriter<W>(pub W);
 

@@ -10,7 +10,7 @@ use Rattle.std.proofs.lemmas.Bool.Decides.{nat_tests}
 use Rattle.std.proofs.lemmas.Fmt.{decimal_is_IsNumeral, decimal-digits_value, first_decimal}
 use Rattle.std.proofs.lemmas.Str.Parse.{IsNumeralModel, numerals_by_value, tells_digits, digit_at}
 use Rattle.share_model.specs.text.Lines.{IsNumber, number_of}
-use Rattle.share_model.proofs.lemmas.text.WordLaws.{number_of-decimal, number_of-only}
+use Rattle.share_model.proofs.lemmas.text.WordLemmas.{number_of-decimal, number_of-only}
 use Rattle.share_orders.specs.Words.{begins_number}
 
 -- the digits from the place on, after the value so far, are those of the whole word; and they are digits only if all
@@ -20,7 +20,7 @@ pub record ReadUpTo (w : List ℕ) (at value : ℕ) : Type 0 where
   pub digits : AllDigits 10 (drop at w) → AllDigits 10 w
   pub fits : value < 2 ^ 64
 
--- where no number has this decimal, none is read
+-- if no number has this decimal, none is read
 not_decimal : (w : List ℕ) (o : Option ℕ) → number_of w ≡ o → ((n : ℕ) → IsNumber n → w ≡ decimal n → ⊥) → number_of w
     ≡ None
 not_decimal w None e h = e

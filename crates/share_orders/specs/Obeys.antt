@@ -1,4 +1,4 @@
--- What an order does to a book, and which orders wait.
+-- The effect of an order on a book, and the orders that wait.
 use Rattle.std.specs.Prelude.{◌≡◌, Bool, true, false, ◌||◌, MatchBool, Option, None, Some}
 use Rattle.share_base.specs.declared.command.Command.TheVariants.{Hold as HoldFlow, Resume as ResumeFlow}
 use Rattle.share_base.specs.declared.command.Reply.TheVariants.{Refused}
@@ -51,7 +51,8 @@ Holds old Rotate (Replied reply) new = ⊥
 Holds old Reload (Replied reply) new = ⊥
 Holds old End (Replied reply) new = ⊥
 
--- what an order does that does not wait: three are events of the book, which answers them; the others are the gateway's
+-- the effect of an order that does not wait: three are events of the book, which answers them; the others are the
+-- gateway's
 abbrev pub Does : BookView → Order → Obeyed → BookView → Type 0
 Does old Report obeyed new = IsAsked old ReportDuty obeyed new
 Does old Status obeyed new = IsAsked old StatusDuty obeyed new

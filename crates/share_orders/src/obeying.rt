@@ -1,4 +1,4 @@
-//! What an order does to a book.
+//! The effect of an order on a book.
 ghost use Rattle.std.specs.Prelude.{◌≡◌, Some};
 ghost use Rattle.share_book.specs.Audited.{lacks_text};
 ghost use Rattle.share_orders.specs.Obeys.{Obeys, ObeysLine, waits};
@@ -9,7 +9,7 @@ use share_base::{Refusal, Reply};
 use share_book::Book;
 use share_model::Rates;
 
-/// What an order asks of the gateway itself.
+/// The part of an order that is for the gateway itself.
 #[derive(Clone, Copy, Debug, PartialEq, Eq)]
 pub enum Duty {
     /// Answer with the report of the open book.
@@ -24,14 +24,14 @@ pub enum Duty {
     End,
 }
 
-/// What became of an order.
+/// The outcome of an order.
 #[derive(Clone, Copy, Debug, PartialEq, Eq)]
 pub enum Obeyed {
     /// It was done or refused, and has this reply.
     Replied(Reply),
     /// It changes nothing of the open book, and asks this of the gateway.
     Asks(Duty),
-    /// It waits, and the lines behind it do: it is obeyed again when the disk has taken text.
+    /// It waits, and the lines after it do: it is obeyed again when the disk has taken text.
     Waits,
 }
 
@@ -58,7 +58,7 @@ pub fn obey<S: Rates>(book: &mut Book<S>, fails: bool, order: Order) -> Obeyed
     }
 }
 
-/// Obeys the order that a line spells, without its line feed. A line that spells none is answered `Syntax`, also while
+/// Obeys the order that a line spells, without its line feed. A line without an order is answered `Syntax`, even while
 /// the disk fails.
 pub fn obey_line<S: Rates>(book: &mut Book<S>, fails: bool, line: &[u8]) -> Obeyed
     ensures { ObeysLine fails book.old (order_in line.now) result book.new }

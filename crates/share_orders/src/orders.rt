@@ -6,7 +6,7 @@ ghost use Rattle.share_orders.specs.declared.orders.Order.TheVariants.{Hold, Res
 use crate::words::Words;
 use share_base::Name;
 
-/// What a control line asks for.
+/// The order of a control line.
 #[derive(Clone, Copy, Debug, PartialEq, Eq)]
 pub enum Order {
     /// The report of the open book.

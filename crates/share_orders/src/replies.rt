@@ -90,7 +90,7 @@ impl Replies {
         }
     }
 
-    /// Puts the text of a reply behind the others. If memory is refused, nothing changes.
+    /// Puts the text of a reply after the others. If memory is refused, nothing changes.
     pub fn push(&mut self, text: &[u8]) -> Result<(), AllocError>
         ensures ok { OnOk result (self.new ≡ self.old ++ text.now) }
         ensures refused { OnErr result (self.new ≡ self.old) }
@@ -105,7 +105,7 @@ impl Replies {
         self.bytes.as_slice()
     }
 
-    /// Whether so many bytes wait that no line is read.
+    /// Whether that many bytes wait that no line is read.
     pub fn is_full(&self) -> bool
         ensures { result ≡ nat_le MAX_REPLIES (length self.now) }
     {

@@ -49,7 +49,7 @@ impl<'a> Words<'a> {
         }
     }
 
-    /// Reads a name. If the next word is none, the words are not to be read on.
+    /// Reads a name. If the next word is not one, the words are not to be read on.
     pub fn name(&mut self) -> Option<Name>
         ensures { MatchOption result (field name_of self.old ≡ None)
             (λ name. field name_of self.old ≡ Some (name, self.new)) }
@@ -60,7 +60,7 @@ impl<'a> Words<'a> {
         }
     }
 
-    /// Reads a number. If the next word is none, the words are not to be read on.
+    /// Reads a number. If the next word is not one, the words are not to be read on.
     pub fn number(&mut self) -> Option<u64>
         ensures { MatchOption result (field number_of self.old ≡ None)
             (λ n. field number_of self.old ≡ Some (n, self.new)) }

@@ -1,4 +1,4 @@
-//! What the lines of control connections do.
+//! The effects of the lines of control connections.
 
 use crate::reactor::Reactor;
 use share_base::{Refusal, Reply};

@@ -28,7 +28,7 @@ const ROUND_BYTES: u32 = 1 << 16;
 /// How many turns schedule that many bytes if each frame is the shortest one, which has 18.
 const MAX_TURNS: u32 = ROUND_BYTES / 18 + 1;
 
-/// What is left to do after a round.
+/// The work that is left after a round.
 #[derive(Clone, Copy, Debug, PartialEq, Eq)]
 pub(crate) enum Rest {
     /// Nothing, before a source is ready or a time has come.
@@ -55,7 +55,7 @@ pub struct Options {
 pub(crate) enum Ending {
     /// It was not asked for.
     No,
-    /// What can be sent is sent, since this time.
+    /// Frames that can be sent have been sent, since this time.
     Sending(Instant),
     /// The last book is being closed, since the end began at this time.
     Closing(Instant),
@@ -77,7 +77,7 @@ pub struct Reactor<'b> {
     pub(crate) input: Input,
     pub(crate) books: &'b mut Books,
     pub(crate) news: News,
-    // What a reload is compared with: the settings, the numbers that names have, and what control lines hold.
+    // The state that a reload is compared with: the settings, the numbers that names have, and what control lines hold.
     pub(crate) settings: Settings,
     pub(crate) roster: Roster,
     pub(crate) holds: ControlHolds,
@@ -198,7 +198,7 @@ impl Reactor<'_> {
         self.rest(is_busy)
     }
 
-    // What is left to do after a round that left something, or nothing, at hand.
+    // The work that is left after a round that left something, or nothing, at hand.
     fn rest(&self, is_busy: bool) -> Rest {
         if is_busy {
             Rest::Some

@@ -21,7 +21,7 @@ use std::time::Clock;
 // The most tenants of a plan, and so the most doors that a reload adds.
 const TENANTS: usize = 64;
 
-/// What a reload has made before it takes effect: keys of doors and of ports.
+/// The parts that a reload has made before it takes effect: keys of doors and of ports.
 #[derive(Drop)]
 pub(crate) struct Added {
     pub(crate) doors: Vec<usize>,

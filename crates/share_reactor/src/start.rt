@@ -16,7 +16,7 @@ use std::fs::Files;
 use std::net::Net;
 use std::time::{Clock, Instant};
 
-/// What a gateway has before its first book begins: its sockets.
+/// The parts of a gateway before its first book begins: its sockets.
 #[derive(Drop)]
 pub(crate) struct Ground {
     pub(crate) poll: Poll,
@@ -143,7 +143,7 @@ impl Ground {
         }
     }
 
-    /// What wakes the loop when the disk has written.
+    /// The waker of the loop, for when the disk has written.
     pub(crate) fn waker(&mut self) -> Result<Waker, NotRun> {
         let token = token_of(&mut self.sources, Source::Disk)?;
         Ok(Waker::new(self.poll.registry(), token)?)

@@ -19,9 +19,9 @@ use Rattle.share_model.specs.run.Events.{MayFollow}
 use Rattle.share_model.specs.run.Fold.{State, empty_state, outcomes, run, state_after, step}
 use Rattle.share_model.specs.run.History.{bill}
 use Rattle.share_model.specs.run.Sound.{SoundState, max_life}
-use Rattle.share_model.proofs.lemmas.link.VersionLaws.{run-version}
-use Rattle.share_model.proofs.lemmas.run.BillLaws.{run-billed}
-use Rattle.share_model.proofs.lemmas.run.FoldLaws.{state-empty, state-step, state_after-last}
+use Rattle.share_model.proofs.lemmas.link.VersionLemmas.{run-version}
+use Rattle.share_model.proofs.lemmas.run.BillLemmas.{run-billed}
+use Rattle.share_model.proofs.lemmas.run.EventLemmas.{state-empty, state-step, state_after-last}
 use Rattle.share_script.specs.Script.{NoFeed}
 use Rattle.share_bill.specs.Bills.{AreEvents, rows_of, sums_of}
 use Rattle.share_bill.specs.Seen.{zeros_for}
@@ -33,7 +33,7 @@ use Rattle.share_bill.specs.declared.bill.text.NotBilled.{NotBilled}
 use Rattle.share_bill.specs.declared.bill.text.NotBilled.TheVariants.{Input, NoMemory, Line as LineFault}
 use Rattle.share_bill.proofs.OneBillLemmas.{one-bill, none-wrong}
 use Rattle.share_bill.proofs.SeenLemmas.{outcomes-seen, state_after-seen, step-seen, totals-seen, zeros-keep}
-use Rattle.share_bill.proofs.SeenRowsLemmas.{rows-measured}
+use Rattle.share_bill.proofs.SeenRowLemmas.{rows-measured}
 use Rattle.share_book.specs.Audited.{Audited, IsRunAndText}
 use Rattle.share_book.specs.BookEvents.{AreBookEvents}
 use Rattle.share_book.specs.Texts.{first_line as first_of_text, line_in}
@@ -97,7 +97,7 @@ reached_next rates s e reached = record {
   is = ap (λ (t : State). step rates t e) reached.is ∙ sym (state_after-last rates (empty_state Two) reached.before e);
 }
 
--- what holds of the lines of events: each is read as its event, none has a line feed, and the events are a run
+-- the invariant of the lines of events: each is read as its event, none has a line feed, and the events are a run
 record AreRead (kind : Kind) (rates : List Rate) (s : State) (events : List Event) : Type 0 where
   are : AreEvents kind rates (state_for kind s) (lines_for kind events) (events_for kind events)
   may : MayFollow max_life rates (state_for kind s) (events_for kind events)
@@ -222,7 +222,7 @@ module _ (a : Audited) (text : IsRunAndText a) where
         ap (λ (s : State). totals s.live) seen_run
         ∙ (totals_for kind (run Two rates text.events) ∙ ap totals text.run.ends.live)
 
-  -- what an open flow owes is its account
+  -- the amount that an open flow owes is its account
   account_due : (o : Option Book) (due : ℕ) → is_some o ≡ true → ((b : Book) → o ≡ Some b → b.account ≡ due)
       → due ≡ account_in o
   account_due None due there is = cc

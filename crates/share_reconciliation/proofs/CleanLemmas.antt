@@ -11,7 +11,7 @@ use Rattle.share_model.specs.lists.Each.{Each}
 use Rattle.share_model.specs.text.Audit.{written_line}
 use Rattle.share_model.specs.text.Lines.{HasFields, IsName, IsNumber, spelling_of}
 use Rattle.share_model.specs.text.Talk.{is_feed, last_line, lines_of, without_empty_end}
-use Rattle.share_model.proofs.lemmas.text.FeedLaws.{lines-written}
+use Rattle.share_model.proofs.lemmas.text.LineFeedLemmas.{lines-written}
 use Rattle.share_script.specs.Script.{NoFeed}
 
 -- ---- The lines of any bytes

@@ -35,10 +35,10 @@ use Rattle.share_model.specs.run.Fold.{State}
 use Rattle.share_model.specs.run.Sound.{Sound, max_life}
 use Rattle.share_model.specs.text.Audit.{event_line}
 use Rattle.share_model.specs.text.Lines.{HasFields, is_in_range, is_space, reading, spelling_of, words_of}
-use Rattle.share_model.proofs.lemmas.run.SoundLaws.{rest-short, sending-short}
-use Rattle.share_model.proofs.lemmas.text.AuditLaws.{line-short}
-use Rattle.share_model.proofs.lemmas.text.LinesLaws.{reading-line, number_of-decimal}
-use Rattle.share_model.proofs.lemmas.text.WordLaws.{name_of-name, no_space-decimal, no_space-name}
+use Rattle.share_model.proofs.lemmas.run.SoundLinkLemmas.{rest-short, sending-short}
+use Rattle.share_model.proofs.lemmas.text.AuditLemmas.{line-short}
+use Rattle.share_model.proofs.lemmas.text.LineLemmas.{reading-line, number_of-decimal}
+use Rattle.share_model.proofs.lemmas.text.WordLemmas.{name_of-name, no_space-decimal, no_space-name}
 use Rattle.share_text.specs.Lengths.{length_of, length_words}
 use Rattle.share_script.specs.Script.{NoFeed}
 use Rattle.share_bill.specs.BookLines.{after_send, book_reading, event_by, event_of, measured_by, next_event, packet_by}
@@ -225,7 +225,7 @@ module _ (l : Live) (below : l.counts.events < max_life) where
       unspent (written_by k (sending l)) (Written k) (written_event k own.frame own.sends own.unbegun (sym own.whole))
   event_spelled Faulted own = absurd own
 
--- what is seen of an event of a book is one of what is seen of the link
+-- the view of an event of a book is one of the view of the link
 pub own-seen : (l : Live) (e : Event) → IsBookEvent l e → IsBookEvent (seen_link zeros_for l) (seen_event zeros_for e)
 own-seen l (Commanded c) own = tt
 own-seen l (Arrived flow body) own =

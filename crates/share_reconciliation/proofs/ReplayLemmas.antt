@@ -19,13 +19,14 @@ use Rattle.share_model.specs.run.Events.{MayFollow, bytes_by, event_bytes}
 use Rattle.share_model.specs.run.Fold.{State, empty_state, out, run, state_after, step}
 use Rattle.share_model.specs.run.Sound.{SoundState}
 use Rattle.share_model.specs.text.Audit.{IsAmple, audit, event_line, written_line}
-use Rattle.share_model.specs.text.Talk.{FoundMemory, Progress, after, lines_of, start_of_script, talk, version_of_script}
+use Rattle.share_model.specs.text.Talk.{FoundMemory, Progress, after, lines_of, start_of_script, talk}
+use Rattle.share_model.specs.text.Talk.{version_of_script}
 use Rattle.share_model.specs.text.Events.{events_of}
 use Rattle.share_model.specs.text.Texts.{line_text}
-use Rattle.share_model.proofs.lemmas.run.FoldLaws.{out-step, state-empty, state-step}
-use Rattle.share_model.proofs.lemmas.text.AuditLaws.{audit-replays}
-use Rattle.share_model.proofs.lemmas.text.EventsLaws.{after-state}
-use Rattle.share_model.proofs.lemmas.text.LackLaws.{talk-found}
+use Rattle.share_model.proofs.lemmas.run.EventLemmas.{out-step, state-empty, state-step}
+use Rattle.share_model.proofs.lemmas.text.AuditLemmas.{audit-replays}
+use Rattle.share_model.proofs.lemmas.text.EventLemmas.{after-state}
+use Rattle.share_model.proofs.lemmas.text.NoMemoryLemmas.{talk-found}
 use Rattle.share_script.specs.Script.{IsOneFold}
 use Rattle.share_book.specs.Audited.{Audited, IsRunAndText}
 use Rattle.share_book.specs.BookEvents.{AreBookEvents, IsBookEvent, IsWholeFrame}
@@ -33,7 +34,8 @@ use Rattle.share_book.specs.Texts.{first_line, line_in}
 use Rattle.share_book.specs.declared.book_text.TextKind.{TextKind}
 use Rattle.share_book.specs.declared.book_text.TextKind.TheVariants.{Whole}
 use Rattle.share_reconciliation.specs.Reconciled.{whole_text}
-use Rattle.share_reconciliation.specs.Replayed.{IsBookAgain, IsReplayOfBook, book_bytes, frame_by, frames_by, frames_from}
+use Rattle.share_reconciliation.specs.Replayed.{IsBookAgain, IsReplayOfBook, book_bytes, frame_by, frames_by}
+use Rattle.share_reconciliation.specs.Replayed.{frames_from}
 use Rattle.share_reconciliation.specs.Replayed.{text_lines}
 
 -- ---- The frames of a run

@@ -1,4 +1,4 @@
--- What a bill of a book's text says.
+-- The bill of a book's text.
 use Rattle.std.specs.Prelude.{◌≡◌, ℕ, List, ◌++◌, None, ⊤}
 use Rattle.share_model.specs.declared.reader.Got.{Got}
 use Rattle.share_bill.specs.Bills.{rows_of}

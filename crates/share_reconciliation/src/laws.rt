@@ -1,4 +1,4 @@
-//! What holds of every book and every bill of its text. The functions here do nothing: their contracts are laws,
+//! Laws of every book and every bill of its text. The functions here do nothing: their contracts are laws,
 //! which are proved with them.
 ghost use Rattle.std.specs.Prelude.{◌≡◌, ◌≤◌, ◌++◌, ℕ, Bool, true, List, Option, None, Some, Result, MatchResult, find};
 ghost use Rattle.std.specs.Prelude.{is_some};
@@ -25,14 +25,13 @@ ghost use Rattle.share_reconciliation.specs.Replayed.{IsBookAgain, IsReplayOfBoo
 use share_book::Book;
 use share_model::{Rates, TellingReader};
 
-/// The bill of a book's text is the book's. A book is one whose text, after what was drained of it, is what
-/// `share_book::Book::engine` says. With the tariffs of the book, its whole text has a bill, whose rows are those of
-/// the book's events, and of which no line is cut (`book`). So whatever `share_bill::bill_text` returns for a reader
-/// of this text, either it is this bill, or a read failed or memory was refused: no line is wrong (`bill`). The run
-/// that a bill of this text makes has the replies of the book's events (`replies`), and comes to the accounts
-/// (`accounts`) and the totals (`totals`) of the book's link. What a flow owes by its row is its account there, while
-/// the flow is open (`amounts`). All this is so of a text of lengths, which has no byte of a payload, and of a whole
-/// one.
+/// The bill of a book's text is the book's. A book is one whose text, after its drained bytes, is that of
+/// `share_book::Book::engine`. With the tariffs of the book, its whole text has a bill, whose rows are those of the
+/// book's events. No line of the text is cut (`book`). So `share_bill::bill_text`, for a reader of this text, returns
+/// this bill, or a read failed or memory was refused: no line is wrong (`bill`). The run that a bill of this text makes
+/// has the replies of the book's events (`replies`). It comes to the accounts (`accounts`) and the totals (`totals`) of
+/// the book's link. The amount of a flow in its row is its account there, while the flow is open (`amounts`). All this
+/// is so of a text of lengths, which has no byte of a payload, and of a whole one.
 pub fn bills_match_books<I: TellingReader>()
     ensures book { (a : Audited) (text : IsRunAndText a) → IsBook a.link.rates (whole_text a text) (billed_kind a.kind)
         (rows_of a.link.rates text.events) None }
@@ -53,9 +52,9 @@ pub fn bills_match_books<I: TellingReader>()
         → (sums_of a.link.rates (run Two a.link.rates text.events) flow).amount ≡ account_of a.link.live.books flow }
 {}
 
-/// The same of a book as it is. It has a whole text, of which `share_book::Book::text` lends the end; and whatever
-/// `share_bill::bill_text` returns for a reader of this text, with the tariffs of the book, is the book's bill,
-/// unless a read failed or memory was refused.
+/// The same of a book as it is. It has a whole text, of which `share_book::Book::text` lends the end.
+/// `share_bill::bill_text`, for a reader of this text and with the tariffs of the book, returns the book's bill, unless
+/// a read failed or memory was refused.
 pub fn bill_matches_book<S: Rates, I: TellingReader>(book: &Book<S>)
     ensures { (text : IsRunAndText book.now.audited)
         × ((first : I) (result : Result BookBill NotBilled)

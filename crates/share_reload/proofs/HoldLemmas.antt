@@ -7,7 +7,7 @@ use Rattle.std.proofs.lemmas.Bool.{cond_both}
 use Rattle.std.proofs.lemmas.Slice.Eq.{bytes_eq-Decides}
 use Rattle.share_model.specs.lists.Change.{change_first}
 use Rattle.share_model.specs.lists.Each.{Each}
-use Rattle.share_model.proofs.lemmas.lists.Laws.{each_map}
+use Rattle.share_model.proofs.lemmas.lists.FirstItemLemmas.{each_map}
 use Rattle.share_model.specs.funding.Graph.{NameBytes}
 use Rattle.share_gateway.specs.Plan.{PlanView, TenantView}
 use Rattle.share_gateway.specs.PlanChanges.{is_tenant, held_as, with_hold}

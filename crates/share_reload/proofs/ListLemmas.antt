@@ -1,4 +1,4 @@
--- What holds of each item of a list, and which items it has.
+-- Properties of each item of a list, and the items that it has.
 use Rattle.std.specs.Prelude.{◌≡◌, ◌≤◌, ℕ, zero, suc, Bool, true, false, List, [], ◌∷◌, ◌++◌, filter, find}
 use Rattle.std.specs.Prelude.{length, position, slice_get, nat_lt, None, Some, Contains}
 use Rattle.std.specs.List.{position_or_len}
@@ -9,7 +9,7 @@ use Rattle.std.proofs.lemmas.Bool.Decides.{nat_tests}
 use Rattle.std.proofs.lemmas.List.Folds.{find_at, find-append}
 use Rattle.std.proofs.lemmas.Option.{slice_get_past}
 use Rattle.share_model.specs.lists.Each.{Each}
-use Rattle.share_model.proofs.lemmas.lists.Laws.{each_map}
+use Rattle.share_model.proofs.lemmas.lists.FirstItemLemmas.{each_map}
 
 pub none_found : {A : Type 0} (p : A → Bool) (xs : List A) → find p xs ≡ None → Each (λ x. p x ≡ false) xs
 none_found p [] none = tt
@@ -20,7 +20,7 @@ none_found {A} p (x ∷ xs) none = by_test (p x) refl (none_found p xs)
     by_test true is more = let found : find p (x ∷ xs) ≡ Some x = rw is refl in absurd (cc)
     by_test false is more = let rest : find p xs ≡ None = rw is at none in (is, more rest)
 
--- what is found in front is found, and otherwise what is found behind
+-- an item that is found in front is found, and otherwise one that is found after it
 pub found_in_front : {A : Type 0} (p : A → Bool) (xs ys : List A) (x : A) → find p xs ≡ Some x
     → find p (xs ++ ys) ≡ Some x
 found_in_front p xs ys x is = find-append p xs ys ∙ ap (λ o. option_or o (find p ys)) is
@@ -54,7 +54,7 @@ contained_first x xs = (0, omega arith, refl)
 pub contained_later : {A : Type 0} (x y : A) (xs : List A) → Contains xs x → Contains (y ∷ xs) x
 contained_later x y xs (k, inside, is) = (suc k, omega (arith, inside), is)
 
--- what passes is in the filter
+-- an item that passes is in the filter
 pub filtered : {A : Type 0} (q : A → Bool) (xs : List A) → Each (λ x. q x ≡ true → Contains (filter q xs) x) xs
 filtered q [] = tt
 filtered {A} q (x ∷ xs) =

@@ -11,7 +11,7 @@ use Rattle.std.proofs.lemmas.List.{map-append, take_more, drop_more, drop_all}
 use Rattle.std.proofs.lemmas.List.Elements.{Contains-append_left, Contains-append_right}
 use Rattle.std.proofs.lemmas.List.Kept.{AllPairs-cons}
 use Rattle.share_model.specs.lists.Each.{Each}
-use Rattle.share_model.proofs.lemmas.lists.Laws.{each_map, each-append}
+use Rattle.share_model.proofs.lemmas.lists.FirstItemLemmas.{each_map, each-append}
 use Rattle.share_model.specs.funding.Graph.{NameBytes}
 use Rattle.share_gateway.specs.Plan.{PlanView, TenantView, IsInLimits, ascends, flows_of}
 use Rattle.share_reload.proofs.ListLemmas.{none_found, each_kept, each_front, each_back, each_contained}

@@ -1,4 +1,5 @@
-//! What a file that is read again may change while a gateway runs. No file is read and no socket is opened here.
+//! The changes that a file that is read again may make while a gateway runs. No file is read and no socket is
+//! opened here.
 #![tactic(auto)]
 
 mod clash;

@@ -1,4 +1,4 @@
-//! What holds of every roster. A function here does nothing: its contract is a law, which is proved with it.
+//! Laws of every roster. A function here does nothing: its contract is a law, which is proved with it.
 ghost use Rattle.std.specs.Prelude.{◌≡◌, ◌↔◌, [], List, Contains};
 ghost use Rattle.share_gateway.specs.Plan.{PlanView, TenantView};
 ghost use Rattle.share_reload.specs.Rosters.{AreAdmitted};

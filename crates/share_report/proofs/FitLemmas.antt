@@ -14,15 +14,15 @@ use Rattle.share_model.specs.funding.Graph.{NameBytes, flow_numbers, tickets}
 use Rattle.share_model.specs.link.Live.{Live}
 use Rattle.share_model.specs.link.Books.{account_in, account_of, is_book_of}
 use Rattle.share_model.specs.link.Commands.{waiting_of}
-use Rattle.share_model.proofs.lemmas.lists.Laws.{rises-below}
+use Rattle.share_model.proofs.lemmas.lists.FirstItemLemmas.{rises-below}
 use Rattle.share_model.specs.run.Sound.{Sound}
-use Rattle.share_model.proofs.lemmas.run.SoundLaws.{sound-numbered, book-account}
+use Rattle.share_model.proofs.lemmas.run.SoundLinkLemmas.{sound-numbered, book-account}
 use Rattle.share_model.specs.stride.Bound.{distance, IsBounded, IsSound}
-use Rattle.share_model.proofs.lemmas.stride.BoundLaws.{distance-idle, distance-competing, rises}
-use Rattle.share_model.proofs.lemmas.stride.DivisionLaws.{stride_of-le}
+use Rattle.share_model.proofs.lemmas.stride.BoundLemmas.{distance-idle, distance-competing, rises}
+use Rattle.share_model.proofs.lemmas.stride.DivisionLemmas.{stride_of-le}
 use Rattle.share_model.specs.stride.Moves.{Stride, new_client, client, position}
 use Rattle.share_model.specs.text.Report.{flow_shown}
-use Rattle.share_model.proofs.lemmas.run.QueueLaws.{tickets-few}
+use Rattle.share_model.proofs.lemmas.run.QueueLemmas.{tickets-few}
 use Rattle.share_report.specs.Widths.{FitsColumns}
 use Rattle.share_report.proofs.FlowLemmas.{has_number-at}
 

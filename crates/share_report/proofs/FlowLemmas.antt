@@ -14,7 +14,7 @@ use Rattle.share_model.specs.link.Live.{Live}
 use Rattle.share_model.specs.link.Books.{is_book_of}
 use Rattle.share_model.specs.link.Totals.{row_of, row}
 use Rattle.share_model.specs.lists.Rises.{has_number}
-use Rattle.share_model.proofs.lemmas.lists.Laws.{has_number-head, has_number-later, is_some-find_number}
+use Rattle.share_model.proofs.lemmas.lists.FirstItemLemmas.{has_number-head, has_number-later, is_some-find_number}
 use Rattle.share_model.specs.run.Sound.{Sound}
 use Rattle.share_model.specs.declared.link.FlowLine.{FlowLine}
 use Rattle.share_model.specs.text.Report.{flow_line, flow_shown}

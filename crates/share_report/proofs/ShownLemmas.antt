@@ -1,4 +1,4 @@
--- What the line of a flow shows.
+-- The line of a flow.
 use Rattle.std.proofs.Common.{◌≡◌, ◌≤◌, ◌^◌, ℕ, ℤ, pos, negsuc, Bool, true, false, not, ◌&&◌, List, Option, None, Some}
 use Rattle.std.proofs.Common.{arith, rules, ◌∙◌, ap, refl}
 use Rattle.std.specs.FinMap.{get}
@@ -12,9 +12,9 @@ use Rattle.share_model.specs.link.Books.{is_held}
 use Rattle.share_model.specs.link.Buffers.{is_busy}
 use Rattle.share_model.specs.link.Live.{Live}
 use Rattle.share_model.specs.run.Sound.{Sound}
-use Rattle.share_model.proofs.lemmas.run.SoundLaws.{tickets-idle, flow-active}
+use Rattle.share_model.proofs.lemmas.run.SoundLinkLemmas.{tickets-idle, flow-active}
 use Rattle.share_model.specs.stride.Bound.{IsBounded}
-use Rattle.share_model.proofs.lemmas.stride.BoundLaws.{distance-idle}
+use Rattle.share_model.proofs.lemmas.stride.BoundLemmas.{distance-idle}
 use Rattle.share_model.specs.stride.Moves.{new_client, client, position}
 use Rattle.share_model.specs.declared.link.Standing.TheVariants.{Held}
 use Rattle.share_model.specs.text.Report.{flow_shown, standing_of}

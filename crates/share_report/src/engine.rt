@@ -50,7 +50,7 @@ fn push_flows<W, S: Rates>(text: &mut ReportText, engine: &Engine<W, S>)
     }
 }
 
-// What the line of an open flow says. Flows are counted from 0.
+// The line of an open flow. Flows are counted from 0.
 fn flow_at<W, S: Rates>(engine: &Engine<W, S>, n: u32) -> Option<FlowLine>
     requires { Sound engine.now.life engine.now.rates engine.now.live }
     ensures { result

@@ -1,4 +1,4 @@
-//! What holds of every report. Each function here does nothing: its contract is a law, which is proved with it.
+//! Laws of every report. Each function here does nothing: its contract is a law, which is proved with it.
 ghost use Rattle.std.specs.Prelude.{◌≡◌, ◌<◌, ◌≤◌, ◌^◌, ℕ, pos, true, false, List, length, slice_get, Some};
 ghost use Rattle.share_model.specs.declared.funding.OpenFlow.{OpenFlow};
 ghost use Rattle.share_model.specs.declared.rates.Rate.{Rate};
@@ -15,7 +15,7 @@ ghost use Rattle.share_report.specs.Widths.{FitsColumns};
 
 use share_model::Standing;
 
-/// The line of a total that fits its columns has 34 bytes and a line feed, and that of such a flow 92 and a line feed.
+/// The line of a total that fits its columns has 34 bytes and a line feed. That of such a flow has 92 and a line feed.
 pub fn lines_fill_their_columns()
     ensures totals { (key value : List ℕ) → length key ≤ 8 → length value ≤ 26
         → length (total_line (key, value)) ≡ 35 }

@@ -16,7 +16,7 @@ use std::io;
 use std::io::{Error, ErrorKind};
 use std::time::{Clock, Duration, Instant};
 
-/// What came of turns.
+/// The outcome of turns.
 #[derive(Clone, Copy, Debug, PartialEq, Eq)]
 pub enum Made {
     /// No turn can be made before something else happens.
@@ -48,12 +48,12 @@ pub struct Books {
     pace: Pace,
 }
 
-/// What is done with the books of a gateway while they are open.
+/// The work on the books of a gateway while they are open.
 pub trait UseBooks<R, X> {
     fn use_books(self, rt: &R, books: &mut Books, settings: Settings) -> X;
 }
 
-// What books have beside the open one.
+// The parts of books beside the open one.
 #[derive(Drop)]
 struct Parts {
     transit: Transit,

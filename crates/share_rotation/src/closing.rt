@@ -79,7 +79,7 @@ impl Books {
         }
     }
 
-    /// What is written of the open book at its close.
+    /// The lines that are written of the open book at its close.
     pub(crate) fn close_at(&self, why: Closing, closed: Time) -> io::Result<BookClose> {
         match self.life.book() {
             None => Err(Error::from(ErrorKind::NotFound)),

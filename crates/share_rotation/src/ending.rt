@@ -10,7 +10,7 @@ use std::io;
 use std::sync::Wait;
 use std::time::Clock;
 
-/// What was left when a gateway ended.
+/// The packets that were left when a gateway ended.
 #[derive(Clone, Copy, Debug, PartialEq, Eq)]
 pub struct Left {
     /// Packets that were taken and never scheduled.
@@ -61,7 +61,7 @@ impl Books {
         }
     }
 
-    // What is written of the last book at its close, if it is open.
+    // The lines that are written of the last book at its close, if it is open.
     fn last_close<R: Clock>(&self, rt: &R) -> io::Result<BookClose> {
         self.close_at(Closing::End, time_now(rt)?)
     }
@@ -81,7 +81,7 @@ impl Books {
         self.queue.abandon();
     }
 
-    /// What was left, once the last book was closed or left.
+    /// The packets that were left, once the last book was closed or left.
     pub fn left(&self) -> Left {
         Left {
             packets: self.remainders.packets(),
@@ -90,7 +90,7 @@ impl Books {
         }
     }
 
-    /// Removes and returns packets of a tenant that were dropped or left and not told yet.
+    /// Removes and returns packets of a tenant that were dropped or left and not reported yet.
     pub fn next_remainder(&mut self) -> Option<Remainder> {
         self.remainders.pop()
     }

@@ -16,7 +16,7 @@ pub(crate) struct Pace {
 }
 
 impl Pace {
-    /// A rate in bytes a second, whose time is counted from this moment on. A rate of 0 is none.
+    /// A rate in bytes a second, whose time is counted from this moment on. A rate of 0 is no bound.
     pub(crate) fn new(rate: Option<u64>, now: Instant) -> Pace {
         Pace {
             allowance: allowance_of(rate),

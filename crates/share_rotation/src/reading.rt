@@ -1,4 +1,4 @@
-//! What is read of the open book.
+//! The readings of the open book.
 
 use crate::books::Books;
 use crate::moments::earlier;
@@ -43,7 +43,7 @@ impl Books {
         self.life.events()
     }
 
-    /// What was sent of a flow since the start.
+    /// The traffic of a flow since the start.
     pub fn sent(&self, flow: FlowNo) -> Sent {
         self.sent.of(flow)
     }

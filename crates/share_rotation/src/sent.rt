@@ -1,4 +1,4 @@
-//! What was sent of each flow since the start.
+//! The traffic of each flow since the start.
 
 use share_base::FlowNo;
 use std::alloc::{AllocError, Global};
@@ -13,7 +13,7 @@ pub struct Sent {
     pub bytes: u64,
 }
 
-/// What was sent of each flow, over all books.
+/// The traffic of each flow, over all books.
 #[derive(Drop)]
 pub(crate) struct SentCounts {
     flows: Vec<Sent>,
@@ -32,7 +32,7 @@ impl SentCounts {
         })
     }
 
-    /// A frame of a flow was scheduled, with so many bytes.
+    /// A frame of a flow was scheduled, with that many bytes.
     pub(crate) fn add(&mut self, flow: FlowNo, bytes: u32) {
         if let Some(sent) = self.flows.get_mut(place_of(flow)) {
             sent.packets = sent.packets.saturating_add(1);
@@ -40,7 +40,7 @@ impl SentCounts {
         }
     }
 
-    /// What was sent of a flow.
+    /// The traffic of a flow.
     pub(crate) fn of(&self, flow: FlowNo) -> Sent {
         self.flows.get(place_of(flow)).copied().unwrap_or(NOTHING)
     }

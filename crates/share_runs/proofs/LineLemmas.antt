@@ -84,7 +84,7 @@ line_goes_on {text = text} {kept = kept} {keeps = keeps} byte other k is =
       keeps = k ∙ ap (λ bs. take 4096 (bs ++ byte ∷ [])) is.keeps ∙ take_again 4096 is.line (byte ∷ []);
     }
 
--- what a read of one byte gave, where it gave one
+-- the byte that a read of one byte gave, if it gave one
 pub byte_given : {I : Type 0} {gives : I → List ℕ → Got → I → Type 0} {before after : I} {number numbers n : ℕ}
     {kept keeps : List ℕ} {ended ends : Bool} (piece rest : List ℕ) → length piece ≡ 1
     → gives before piece (Bytes n) after → 0 < n → n ≤ length piece
@@ -102,7 +102,7 @@ byte_given {numbers = numbers} {n = n} {keeps = keeps} {ends = ends} (b ∷ []) 
     }
 byte_given (b ∷ c ∷ bs) rest one gave some few follows = absurd (omega (arith, one))
 
--- what it gave where it gave none
+-- the state after a read that gave nothing
 nothing_given_of : {I : Type 0} {gives : I → List ℕ → Got → I → Type 0} {before after : I} {number : ℕ}
     {kept : List ℕ} {ended : Bool} (piece rest : List ℕ) (got : Got) → length piece ≡ 1
     → gives before piece got after → given_bytes (piece ++ rest) got ≡ []

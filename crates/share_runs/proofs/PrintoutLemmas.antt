@@ -10,7 +10,7 @@ use Rattle.share_model.specs.link.Live.{Live}
 use Rattle.share_model.specs.run.Fold.{out}
 use Rattle.share_model.specs.link.View.{LinkView}
 use Rattle.share_model.specs.io.Told.{Told, TapeAnswers}
-use Rattle.share_model.proofs.lemmas.text.EventsLaws.{after-state}
+use Rattle.share_model.proofs.lemmas.text.EventLemmas.{after-state}
 use Rattle.share_model.specs.text.Talk.{start_of_script, talk, after, lines_of}
 use Rattle.share_model.specs.io.Printing.{AppendsPart}
 use Rattle.share_text.specs.Printing.{out_line}
@@ -131,7 +131,7 @@ ran_whole (Some script) left a b c life rates e new bytes over is whole line =
     subst (λ l. PrintedRun a c l rates script) over.life_is
     (subst (λ rs. PrintedRun a c e.life rs script) over.rates_are here)
 
--- the fault that a run tells is that of the call that stopped it
+-- the fault of a run is that of the call that stopped it
 pub told_fault : {X : Type 0} {r : Result X ScriptFault} {fault other : ScriptFault} → r ≡ Err other
     → IsErrAnd r (λ y. y ≡ fault) → fault ≡ other
 told_fault {fault = fault} is told = sym (subst (λ x. IsErrAnd x (λ y. y ≡ fault)) is told)

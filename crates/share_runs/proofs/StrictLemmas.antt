@@ -1,4 +1,4 @@
--- What is passed on of an offer, by its first line.
+-- The part of an offer that is passed on, by its first line.
 use Rattle.std.proofs.Common.{◌≡◌, ◌<◌, ◌+◌, ℕ, Bool, true, List, [], ◌∷◌, ◌++◌, length, take, drop}
 use Rattle.std.proofs.Common.{refl, arith, sym, ap, ◌∙◌, subst}
 use Rattle.std.proofs.Math.Seq.{take-append-add}
@@ -7,7 +7,7 @@ use Rattle.share_model.specs.declared.writer.Answer.{Answer}
 use Rattle.share_model.specs.declared.writer.Answer.TheVariants.{Failed}
 use Rattle.share_runs.specs.Strict.{IsRefusal, EndsNoLine, kept_after, StrictAnswers, is_answer, is_refusal, is_over}
 
--- the first line feed of a piece is behind this many bytes
+-- the first line feed of a piece is after this many bytes
 abbrev pub FeedAt : List ℕ → ℕ → Type 0
 FeedAt piece size = piece ≡ take size piece ++ 10 ∷ drop (size + 1) piece
 

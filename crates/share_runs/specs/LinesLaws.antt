@@ -1,4 +1,4 @@
--- What a reader of lines gives is what the reader below it tells.
+-- A reader of lines gives the bytes that the `told` of the reader below it has.
 use Rattle.std.specs.Prelude.{◌≡◌, ◌≤◌, ℕ, Bool, List, [], ◌∷◌, length, take, Option}
 use Rattle.std.proofs.Common.{refl, arith, ap, subst, zero, suc}
 use Rattle.std.proofs.lemmas.List.{length-take}

@@ -1,4 +1,4 @@
--- What the program prints: the answers to the lines of its script, and the line of the bytes that were written.
+-- The output of the program: the answers to the lines of its script, and the line of the bytes that were written.
 use Rattle.std.specs.Prelude.{◌≡◌, ℕ, Bool, List, [], ◌∷◌, ◌++◌, Option, Some}
 use Rattle.std.specs.Io.KnownBytes.{Appends, Consumes}
 use Rattle.share_model.specs.declared.rates.Rate.{Rate}

@@ -13,15 +13,15 @@ IsRefusal line = take 3 line ≡ codes "no "
 abbrev pub EndsNoLine : List ℕ → Type 0
 EndsNoLine bytes = All (λ b. b ≢ 10) bytes
 
--- what is kept of a line after an answer to a further part of it, which has `size` bytes before its line feed
+-- the part of a line that is kept after an answer to a further part of it, which has `size` bytes before its line feed
 abbrev pub kept_after : List ℕ → List ℕ → ℕ → Answer → List ℕ
 kept_after kept part size (Accepted k) = if nat_lt size k then [] else take 64 (kept ++ take k part)
 kept_after kept part size Interrupted = kept
 kept_after kept part size Failed = kept
 
--- What an offer does to the writer below, the last line of the output, and the mark of a refusal. The first line of the
--- piece is passed on: with its line feed if the line is no refusal, else without. From the line feed of a refusal on
--- offers fail.
+-- The effect of an offer on the writer below, the last line of the output, and the mark of a refusal. The first line
+-- of the piece is passed on: with its line feed if the line is no refusal, otherwise without. From the line feed of a
+-- refusal on offers fail.
 pub data StrictAnswers {O : Type 0} (answers : O → List ℕ → Answer → O → Type 0) (before : O) (kept : List ℕ)
     (mark : Bool) (piece : List ℕ) (answer : Answer) (after : O) (keeps : List ℕ) (marks : Bool) : Type 0 where
   goes_on : EndsNoLine piece → answers before piece answer after → keeps ≡ kept_after kept piece (length piece) answer

@@ -1,4 +1,4 @@
--- What a strict writer does is what the writer below it tells.
+-- A strict writer does what the `told` of the writer below it says.
 use Rattle.std.specs.Prelude.{ℕ, Bool, List, [], ◌∷◌, ◌++◌, Option, option_map}
 use Rattle.std.proofs.Common.{arith, sym, ap, ◌∙◌, subst}
 use Rattle.std.proofs.lemmas.List.{take-append-le, length-append}

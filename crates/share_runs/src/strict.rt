@@ -13,7 +13,7 @@ use share_model::{Answer, Fault, TellingWriter, put};
 const KEPT: usize = 64;
 
 /// Wraps a writer, and passes on to it the answers to a script up to the line feed of the first refusal. That line feed
-/// is not passed on, and the offer fails. Of each offer only the first line is passed on.
+/// is not passed on, and the offer fails. Only the first line of each offer is passed on.
 #[derive(Drop)]
 pub struct StrictWriter<O> {
     pub output: O,

@@ -20,7 +20,7 @@ use Rattle.share_model.specs.text.Lines.{is_send, reading, ReadsLine}
 use Rattle.share_model.specs.text.Talk.{is_syntax}
 use Rattle.share_model.specs.text.Texts.{line_text}
 use Rattle.share_model.specs.text.Answering.{AnswersBytes, AnswersLine}
-use Rattle.share_model.proofs.lemmas.text.TalkLaws.{line-says, unread-says, no_memory-says}
+use Rattle.share_model.proofs.lemmas.text.TalkLemmas.{line-says, unread-says, no_memory-says}
 use Rattle.share_script.specs.Script.{is_torn}
 use Rattle.share_script.specs.Session.{answer_text}
 use Rattle.share_script.specs.declared.answers.LineAnswer.{LineAnswer}

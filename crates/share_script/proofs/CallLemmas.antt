@@ -1,4 +1,4 @@
--- What the calls of an engine made of its writer: none, or one.
+-- The calls of an engine and its writer: none, or one.
 use Rattle.std.specs.Prelude.{◌≡◌, ◌≤◌, ℕ, Bool, true, false, List, Option, None, Some, MatchBool}
 use Rattle.std.proofs.Common.{inl, inr, refl, sym, subst}
 use Rattle.share_base.specs.declared.command.Command.{Command}
@@ -18,9 +18,9 @@ use Rattle.share_model.specs.link.Calls.{is_spent, Stepped, Steps, CommandCall, 
 use Rattle.share_model.specs.run.Sound.{Sound}
 use Rattle.share_model.specs.io.Told.{Told, WasTold}
 use Rattle.share_model.specs.io.Calls.{Called, no_call, CallFailed}
-use Rattle.share_model.proofs.lemmas.io.CallsLaws.{called_once, call_failed_once}
+use Rattle.share_model.proofs.lemmas.io.CallLemmas.{called_once, call_failed_once}
 use Rattle.share_model.specs.text.Answering.{TakesAll}
-use Rattle.share_model.proofs.lemmas.text.TurnTalkLaws.{turn-failed}
+use Rattle.share_model.proofs.lemmas.text.TurnTalkLemmas.{turn-failed}
 use Rattle.share_script.specs.Script.{is_torn}
 
 uncalled : {W : Type 0} (answers : W → List ℕ → Answer → W → Type 0) (w v : W) → v ≡ w → Called answers w v
@@ -75,7 +75,7 @@ module _ {W : Type 0} (answers : W → List ℕ → Answer → W → Type 0) (ol
   pub tear-called : (turn : Turn) → TearCall old turn new → Called answers old.writer new.writer
   tear-called turn did = tear_by turn (sending old.live) (is_spent old) old.live.broken did
 
--- a turn on a writer that takes all is torn only where the writer failed
+-- a turn on a writer that takes all is torn only if the writer failed
 pub torn-failed : {W : Type 0} (told : W → Option Told) (answers : W → List ℕ → Answer → W → Type 0)
     → ((before : W) (piece : List ℕ) (answer : Answer) (after : W) → answers before piece answer after
     → WasTold (told before) piece answer (told after))

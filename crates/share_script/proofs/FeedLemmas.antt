@@ -13,7 +13,7 @@ use Rattle.share_script.specs.Session.{SessionView, HoldsScript}
 use Rattle.share_script.specs.Printing.{Spooled, SpooledPart}
 use Rattle.share_script.specs.Script.{NoFeed, Went, IsTextBeginning, Feeds, FeedsPart, PrintedAnswer, PrintedAnswerPart}
 use Rattle.share_script.proofs.ChunkLemmas.{piece_clean, piece_whole, last_clean, last_whole}
-use Rattle.share_model.proofs.lemmas.text.EventsLaws.{answer-later}
+use Rattle.share_model.proofs.lemmas.text.EventLemmas.{answer-later}
 use Rattle.share_script.proofs.LineLemmas.{ReadAlike, answer_same, reading_cut, clean_cut, alike_cut}
 use Rattle.share_script.proofs.WentLemmas.{went_as, begins_as, went_more, begins_more, went_line, went_cut, begins_cut}
 use Rattle.share_script.proofs.WentLemmas.{lines_as, lines_piece}
@@ -109,7 +109,7 @@ module _ {W : Type 0} (told : W → Option Told) where
         texts = w.texts;
       }
 
-  -- what was printed while nothing of the rest was read
+  -- the bytes that were printed while nothing of the rest was read
   pub part_of : (a b : Option (List ℕ)) (x y : List ℕ) (old mid : SessionView W) (line left c1 : List ℕ)
       → Feeds told a x b y old line c1 mid left → FeedsPart told a x b old line c1
   part_of a b x y old mid line left c1 f = record {
@@ -118,7 +118,7 @@ module _ {W : Type 0} (told : W → Option Told) where
     broke = λ p h clean rest. begins_by a b x y old mid line left c1 f p h clean rest;
   }
 
-  -- what was printed where the rest of what waits was not
+  -- the bytes that were printed if the rest of those that wait was not
   pub part_then : (a b c : Option (List ℕ)) (x y : List ℕ) (old mid : SessionView W) (line left c1 : List ℕ)
       → Feeds told a x b y old line c1 mid left → SpooledPart b y c [] → FeedsPart told a x c old line c1
   part_then a b c x y old mid line left c1 f s =
@@ -129,7 +129,7 @@ module _ {W : Type 0} (told : W → Option Told) where
         broke = λ p h clean rest. begins_by a b x y old mid line left c1 f p h clean rest;
       }
 
-  -- what was printed where all that waits then was
+  -- the bytes that were printed if all that waited then were
   pub fed_then : (a b c : Option (List ℕ)) (x y z : List ℕ) (old new : SessionView W) (line left c1 : List ℕ)
       → Feeds told a x b y old line c1 new left → Spooled b y c z [] → Feeds told a x c z old line c1 new left
   fed_then a b c x y z old new line left c1 f s = record {
@@ -139,7 +139,7 @@ module _ {W : Type 0} (told : W → Option Told) where
     went = f.went;
   }
 
-  -- what waited before, by another name
+  -- the bytes that waited before, by another name
   pub fed_from : (a b : Option (List ℕ)) (x w y : List ℕ) (old new : SessionView W) (line left c1 : List ℕ) → x ≡ w
       → Feeds told a x b y old line c1 new left → Feeds told a w b y old line c1 new left
   fed_from a b x w y old new line left c1 e f = subst (λ z. Feeds told a z b y old line c1 new left) e f
@@ -224,7 +224,7 @@ module _ {W : Type 0} (told : W → Option Told) where
         begins = λ p h ls. begins_said old line printed.text new printed.says p h ls;
       }
 
-  -- the answer was printed behind what waits
+  -- the answer was printed after what waits
   pub printed_text : (a b c : Option (List ℕ)) (x y z : List ℕ) (old : SessionView W) (line text shown : List ℕ)
       (new : SessionView W)
       → Spooled a x b y [] → shown ≡ text → Spooled b y c z shown
@@ -248,7 +248,7 @@ module _ {W : Type 0} (told : W → Option Told) where
     begins = λ p h ls. begins_said old line text new says p h ls;
   }
 
-  -- what waits was written after the answer
+  -- the bytes that wait were written after the answer
   pub printed_then : (a b c : Option (List ℕ)) (x y z : List ℕ) (old : SessionView W) (line : List ℕ)
       (new : SessionView W)
       → PrintedAnswer told a x b y old line new → Spooled b y c z [] → PrintedAnswer told a x c z old line new

@@ -9,7 +9,7 @@ use Rattle.std.proofs.lemmas.List.Elements.{All-append}
 use Rattle.std.proofs.lemmas.Bool.Decides.{nat_tests}
 use Rattle.share_model.specs.declared.reader.Got.{Got}
 use Rattle.share_model.specs.text.Talk.{is_feed}
-use Rattle.share_model.proofs.lemmas.text.FeedLaws.{lines-feed}
+use Rattle.share_model.proofs.lemmas.text.LineFeedLemmas.{lines-feed}
 use Rattle.share_script.specs.Script.{NoFeed}
 use Rattle.share_script.specs.Lines.{FirstLine, IsUnfinished, IsNextLine, IsPieceKept, unless_long, incoming_lines}
 use Rattle.share_script.specs.Lines.{given_by}
@@ -74,7 +74,7 @@ took_lines _ _ _ (took_read text given ahead came took) more =
     ∙ took_lines text given ahead took (came ++ more)
     ∙ ap (λ b. given ++ incoming_lines b) (sym (append_assoc ahead came more))
 
--- What is kept of a line
+-- The part of a line that is kept
 
 first_line : (bytes : List ℕ) (count : ℕ) → IsFirstByte is_feed bytes (Some count)
     → FirstLine bytes (take count bytes) (drop (count + 1) bytes)
@@ -89,7 +89,7 @@ first_line bytes count first =
       clean = passes_before is_feed bytes count first;
     }
 
--- where a line was given, nothing of the next one is kept
+-- if a line was given, nothing of the next one is kept
 left_by : (kept : List ℕ) (is_given : Bool) → NoFeed kept → NoFeed (if is_given then [] else kept)
 left_by kept true clean = λ k d z. absurd (omega arith)
 left_by kept false clean = clean
@@ -139,7 +139,7 @@ next_unfinished kept chunk now rest clean did =
     let P : List ℕ → Type 0 = λ r. IsUnfinished r in
     (refl, none, subst P (sym ahead) (clean_cut all none, omega (arith, length-take 20481 all)), ahead)
 
--- what is kept has no line feed
+-- the part that is kept has no line feed
 pub kept_clean : (kept chunk now rest : List ℕ) (ended : Bool) → NoFeed kept → IsPieceKept kept chunk ended now rest
     → NoFeed now
 kept_clean kept chunk now rest true clean did =
@@ -148,7 +148,7 @@ kept_clean kept chunk now rest true clean did =
 kept_clean kept chunk now rest false clean did =
     subst NoFeed (sym did.2) (clean_cut (kept ++ chunk) (All-append (λ b. is_feed b ≡ false) kept chunk clean did.0))
 
--- What stands after a call
+-- The state after a call
 
 pub next_as : {R : Type 0} (before : Connection R) (reader : R) (kept chunk left : List ℕ) (is_given : Bool)
     (found : Incoming) (line rest : List ℕ)

@@ -1,6 +1,6 @@
 -- The lines of a script, and that of a line that is too long only the beginning counts.
 use Rattle.std.proofs.Common.{◌≡◌, ◌<◌, ◌≤◌, ◌⊎◌, inl, inr, ℕ, Bool, true, false, List, [], ◌∷◌, ◌++◌, length, take}
-use Rattle.std.proofs.Common.{Result, Ok, Err, drop, arith, sym, ◌∙◌, ap, refl, length-append, length-take}
+use Rattle.std.proofs.Common.{drop, arith, sym, ◌∙◌, ap, refl, length-append, length-take}
 use mathlib.Core.List.{append_assoc}
 use Rattle.std.proofs.lemmas.List.{take_all, get_or-take}
 use Rattle.std.proofs.lemmas.List.Elements.{All-append, All-cons, All-from_get_or}
@@ -12,7 +12,7 @@ use Rattle.share_model.specs.text.Lines.{reading}
 use Rattle.share_model.specs.text.Talk.{Progress, read_event, progress_and_text, answer, first_flag, talk}
 use Rattle.share_model.specs.text.Talk.{after}
 use Rattle.share_model.specs.text.Talk.{is_feed, last_line, without_empty_end, lines_of}
-use Rattle.share_model.proofs.lemmas.text.FeedLaws.{lines-feed}
+use Rattle.share_model.proofs.lemmas.text.LineFeedLemmas.{lines-feed}
 use Rattle.share_script.specs.Script.{NoFeed}
 use Rattle.share_text.proofs.ReadingLemmas.{too_long}
 

@@ -9,10 +9,10 @@ use Rattle.share_model.specs.declared.rates.Rate.{Rate}
 use Rattle.share_model.specs.io.Told.{Told}
 use Rattle.share_model.specs.link.Tariff.{AreInRange}
 use Rattle.share_model.specs.run.Fold.{State, out}
-use Rattle.share_model.proofs.lemmas.run.HeadlineLaws.{headline}
+use Rattle.share_model.proofs.lemmas.run.HeadlineLemmas.{headline}
 use Rattle.share_model.specs.run.Sound.{max_life}
 use Rattle.share_model.specs.text.Events.{events_of}
-use Rattle.share_model.proofs.lemmas.text.EventsLaws.{after-state, after-writes, events-may_follow, talk-texts}
+use Rattle.share_model.proofs.lemmas.text.EventLemmas.{after-state, after-writes, events-may_follow, talk-texts}
 use Rattle.share_model.specs.text.Talk.{Progress, start_of_script, version_of_script, answer, talk, after, lines_of}
 use Rattle.share_model.specs.text.Answering.{Holds}
 use Rattle.share_script.specs.Printing.{SpooledPart}
@@ -64,7 +64,7 @@ module _ {W : Type 0} (told : W → Option Told) where
     fed = so.fed;
   }
 
-  -- where the reader told its bytes, no more was printed than a beginning of the answers to what was read
+  -- if the reader reported its bytes, no more was printed than a beginning of the answers to what was read
 
   pub running_part : (given left a b : Option (List ℕ)) (old mid : SessionView W) (line : List ℕ)
       → Running told given left a b old mid line → IfSome given (λ script. FedPart told a b old script left)
@@ -85,7 +85,7 @@ module _ {W : Type 0} (told : W → Option Told) where
     fed = fed_then_part told a b c [] [] old mid [] line so.done chunk so.fed broke;
   }
 
-  -- at the end of what it told, that is the whole script
+  -- at the end of what it reported, that is the whole script
   pub running_whole : (given left next a b : Option (List ℕ)) (old mid : SessionView W) (line : List ℕ)
       → Running told given left a b old mid line → Consumes left next [] × IsAtEnd next
       → IfSome given (λ script. FedWhole told a b old script next mid line)
@@ -229,7 +229,7 @@ printed_but_last a b c old mid script left line h f e =
     (begins_more old.link.life old.link.rates start_of_script u.progress _ _ f.fed.text e.1.text last
     (u.goes [] last.lacks)))
 
--- What a run comes to, where the reader told its bytes
+-- The outcome of a run whose reader reported its bytes
 
 -- nothing was read
 pub run_nothing : (given a : Option (List ℕ)) (engine : LinkView Told)
@@ -290,7 +290,7 @@ part_first given left a c engine old is h =
     let P : LinkView Told → Type 0 = λ x. IfSome given (λ script. PrintedPart a c x script left) in
     subst P (ap (λ (x : SessionView Told). x.link) is) h
 
--- What was printed and what the link came to are one fold
+-- The printed bytes and the state of the link are one fold
 
 fold_of : (a c : Option (List ℕ)) (engine last : LinkView Told) (script : List ℕ) (left : Option (List ℕ))
     → engine.life ≤ max_life → AreInRange engine.rates → Printed a c engine script left last

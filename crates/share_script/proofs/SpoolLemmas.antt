@@ -8,7 +8,7 @@ use Rattle.share_model.specs.io.Printing.{AppendsPart}
 use Rattle.share_script.specs.Printing.{Spooled, SpooledPart}
 use Rattle.std.proofs.KnownBytes.{Appends-nil}
 
--- what a text says that waits
+-- the bytes of a text that waits
 pub spooled_text : (a : Option (List ℕ)) (p q text : List ℕ) → q ≡ p ++ text → Spooled a p a q text
 spooled_text a p q text e = record { out = []; appends = Appends-nil a; same = sym e }
 
@@ -36,7 +36,7 @@ spooled_then_part a b c p q x y s t = record {
       ∙ sym (append_assoc s.out t.out t.rest);
 }
 
--- what waits is a rest
+-- the bytes that wait are a rest
 pub spooled_part : (a b : Option (List ℕ)) (p q x : List ℕ) → Spooled a p b q x → SpooledPart a p b x
 spooled_part a b p q x s = record { out = s.out; rest = q; appends = s.appends; same = s.same }
 
@@ -57,7 +57,7 @@ spooled_out_part a b p bs e h = record {
 pub spooled_whole : (a b : Option (List ℕ)) (x : List ℕ) → Spooled a [] b [] x → Appends a b x
 spooled_whole a b x s = subst (λ y. Appends a b y) (sym (s.same ∙ append-nil s.out)) s.appends
 
--- what a text is that is followed by nothing
+-- the bytes of a text that is followed by nothing
 pub spooled_as : (a b : Option (List ℕ)) (p q x y : List ℕ) → x ≡ y → Spooled a p b q x → Spooled a p b q y
 spooled_as a b p q x y e s = subst (λ z. Spooled a p b q z) e s
 

@@ -5,7 +5,7 @@ use Rattle.std.proofs.Common.{sym, subst}
 use Rattle.share_model.specs.declared.reader.Got.{Got}
 use Rattle.share_model.specs.declared.writer.Answer.{Answer}
 use Rattle.share_model.specs.io.Calls.{ReadFails, HasRead, Offers, no_offers, OfferRefused, CallFailed, no_call}
-use Rattle.share_model.proofs.lemmas.io.CallsLaws.{offers_more, refused_later, called_more, call_failed_later}
+use Rattle.share_model.proofs.lemmas.io.CallLemmas.{offers_more, refused_later, called_more, call_failed_later}
 use Rattle.share_model.specs.link.View.{LinkView}
 use Rattle.share_script.specs.Session.{SessionView}
 use Rattle.share_script.specs.Script.{Wrote, IsStop, FoundNone}
@@ -27,7 +27,7 @@ module _ {W O : Type 0} {answers : W → List ℕ → Answer → W → Type 0} {
       → Wrote answers accepts u v a c
   wrote_offers f offers = record { called = f.called; offers = offers_more f.offers offers }
 
--- What stopped a run
+-- The reason that stopped a run
 
 pub stop_later : {W O : Type 0} (answers : W → List ℕ → Answer → W → Type 0)
     (accepts : O → List ℕ → Answer → O → Type 0)
@@ -47,12 +47,12 @@ pub stop_refused : {W O : Type 0} (answers : W → List ℕ → Answer → W →
 stop_refused answers accepts u v a b c fault is f refused =
     subst (λ x. IsStop answers u v accepts a c x) (sym is) (refused_later f.offers refused)
 
--- the fault that a run tells is that of the call that stopped it
+-- the fault of a run is that of the call that stopped it
 pub told_fault : {X : Type 0} {r : Result X ScriptFault} {fault other : ScriptFault} → r ≡ Err other
     → IsErrAnd r (λ y. y ≡ fault) → fault ≡ other
 told_fault {fault = fault} is told = sym (subst (λ x. IsErrAnd x (λ y. y ≡ fault)) is told)
 
--- a read failed, or as many were made as a run may make; or what else stops a run, at most as many reads later
+-- a read failed, or as many were made as a run may make; or another reason stops a run, at most as many reads later
 abbrev pub IsReadingStop : {R W O : Type 0} → (R → List ℕ → Got → R → Type 0) → ℕ → R → R
     → (W → List ℕ → Answer → W → Type 0) → W → W → (O → List ℕ → Answer → O → Type 0) → O → O → ScriptFault → Type 0
 IsReadingStop gives most input rest answers writer now accepts output last Input =
@@ -71,7 +71,7 @@ module _ {R W O : Type 0} (gives : R → List ℕ → Got → R → Type 0) (mos
   stopped u v w a b c Output read f stop = (read, refused_later f.offers stop)
   stopped u v w a b c NoMemory read f stop = (read, call_failed_later f.called stop.0, offers_more f.offers stop.1)
 
-  -- what is known of the fault of a call is known of the fault that the run tells
+  -- a fact of the fault of a call is one of the fault of the run
   pub stopped_as : {X : Type 0} {r : Result X ScriptFault} (u w : W) (a c : O)
       (fault other : ScriptFault) → r ≡ Err other → IsErrAnd r (λ y. y ≡ fault)
       → IsReadingStop gives most i j answers u w accepts a c fault

@@ -5,7 +5,7 @@ use Rattle.std.proofs.lemmas.List.Elements.{All-append}
 use Rattle.share_model.specs.declared.rates.Rate.{Rate}
 use Rattle.share_model.specs.text.Talk.{Progress, answer, talk, after, is_feed, lines_of}
 use Rattle.share_script.specs.Script.{NoFeed, Went, IsTextBeginning}
-use Rattle.share_model.proofs.lemmas.text.FeedLaws.{lines-feed}
+use Rattle.share_model.proofs.lemmas.text.LineFeedLemmas.{lines-feed}
 use Rattle.share_script.proofs.LineLemmas.{ReadAlike, talk_same, after_same}
 
 pub went_as : (life life' : ℕ) (rates rates' : List Rate) (p : Progress) (ls : List (List ℕ)) (text : List ℕ)

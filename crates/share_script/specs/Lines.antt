@@ -9,7 +9,7 @@ use Rattle.share_script.specs.Script.{NoFeed}
 use Rattle.share_script.specs.declared.lines.Incoming.{Incoming}
 use Rattle.share_script.specs.declared.lines.Incoming.TheVariants.{Line, OverLong, Unfinished}
 
--- the reader, the line that was given last, and the bytes that came after it; where no line is given, it is empty
+-- the reader, the line that was given last, and the bytes that came after it; if no line is given, it is empty
 pub record Connection (R : Type 0) : Type 0 where
   pub reader : R
   pub line : List ℕ
@@ -64,7 +64,7 @@ bytes_of End buffer = []
 bytes_of Interrupted buffer = []
 bytes_of Failed buffer = []
 
--- one read call was made; the bytes that it gave came, and they are those that the reader tells
+-- one read call was made; the bytes that it gave came, and they are those that the reader reports
 pub record ReadCall {R : Type 0} (left : R → Option (List ℕ)) (gives : R → List ℕ → Got → R → Type 0)
     (before : R) (got : Got) (after : R) (came : List ℕ) : Type 0 where
   pub buffer : List ℕ
@@ -82,7 +82,7 @@ pub record Came {R : Type 0} (left : R → Option (List ℕ)) (gives : R → Lis
 
 -- How a connection holds its bytes
 
--- what was kept of a line, and the bytes after it; the line is given, or its line feed did not come
+-- the part of a line that was kept, and the bytes after it; the line is given, or its line feed did not come
 abbrev pub connection : {R : Type 0} → R → List ℕ → List ℕ → Bool → Connection R
 connection reader kept chunk is_given = record {
   reader = reader;

@@ -1,4 +1,4 @@
--- What was printed on a writer, and what waits to be printed.
+-- The bytes that were printed on a writer, and those that wait to be printed.
 use Rattle.std.specs.Prelude.{◌≡◌, ℕ, List, ◌++◌, Option}
 use Rattle.std.specs.Io.KnownBytes.{Appends}
 

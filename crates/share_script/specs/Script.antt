@@ -1,4 +1,4 @@
--- What a run of a script comes to.
+-- The outcome of a run of a script.
 use Rattle.std.specs.Prelude.{◌≡◌, ◌≢◌, ◌⊎◌, ℕ, Bool, true, false, List, [], ◌∷◌, ◌++◌, filter, nat_lt, Option, Some}
 use Rattle.std.specs.Prelude.{Result, MatchResult}
 use Rattle.std.specs.List.{All}
@@ -140,7 +140,7 @@ pub record WentOn {W : Type 0} (told : W → Option Told) (old : SessionView W) 
   pub life : new.link.life ≡ old.link.life
   pub rates : new.link.rates ≡ old.link.rates
 
--- whatever script was in progress on the link, the chunk was read and its answers printed
+-- the chunk was read and its answers printed, for any script in progress on the link
 pub record Feeds {W : Type 0} (told : W → Option Told) (a : Option (List ℕ)) (waited : List ℕ) (b : Option (List ℕ))
     (waits : List ℕ) (old : SessionView W) (line chunk : List ℕ) (new : SessionView W) (left : List ℕ) : Type 0 where
   pub text : List ℕ
@@ -172,7 +172,7 @@ pub record PrintedAnswerPart {W : Type 0} (told : W → Option Told) (a : Option
   pub begins : (p : Progress) → HoldsScript told old p → (ls : List (List ℕ))
       → IsTextBeginning old.link.life old.link.rates p (line ∷ ls) text
 
--- the bytes after the last line feed were answered as a line, where there were any
+-- the bytes after the last line feed were answered as a line, if there were any
 abbrev pub FinishesScript : {W : Type 0} → (W → Option Told) → Option (List ℕ) → Option (List ℕ) → SessionView W
     → List ℕ → SessionView W
     → Type 0
@@ -197,7 +197,7 @@ pub record FedPart {W : Type 0} (told : W → Option Told) (a b : Option (List �
   pub reads : Consumes (Some script) left read
   pub fed : FeedsPart told a [] b old [] read
 
--- what was read so far was fed, and left an unfinished line
+-- the bytes that were read so far were fed, and left an unfinished line
 pub record Running {W : Type 0} (told : W → Option Told) (given left a b : Option (List ℕ)) (old new : SessionView W)
     (line : List ℕ) : Type 0 where
   pub done : List ℕ

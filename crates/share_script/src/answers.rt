@@ -20,7 +20,7 @@ use share_base::{Command, Outcome, Refusal, Reply, Turn, Version};
 use share_core::Engine;
 use share_model::{Line, Rates, TellingWriter};
 use share_report::report;
-use share_text::{MAX_ANSWER, push_line, read_line};
+use share_text::{MAX_ANSWER, push_line, read_line, read_packet, read_turn};
 use std::alloc::Global;
 use std::marker::Model;
 
@@ -76,7 +76,7 @@ impl<W, S: Rates> Session<W, S> {
     }
 }
 
-/// What a line is answered with.
+/// The answers to lines.
 #[derive(Drop)]
 pub enum LineAnswer {
     /// The line of an outcome.
@@ -103,7 +103,33 @@ pub fn answer<W: TellingWriter + Drop, S: Rates + Drop>(
 {
     let first = session.first;
     session.first = false;
-    answer_bytes(session.alloc, &mut session.engine, first, bytes)
+    answer_in_place(session.alloc, &mut session.engine, first, bytes)
+}
+
+// Answers a turn, and a packet whose payload needs no memory, where it was read: no line is copied on its way.
+#[inline(always)]
+fn answer_in_place<W: TellingWriter + Drop, S: Rates + Drop>(
+    alloc: Global,
+    engine: &mut Engine<W, S>,
+    first: bool,
+    bytes: &[u8],
+) -> Result<LineAnswer, ScriptFault>
+    requires whole { TakesAll W.answers }
+    requires fresh { first ≡ true → engine.old.live.counts.events ≡ 0 }
+    ensures says { IfOk result (λ line_answer. AnswersBytes W.told engine.old first bytes.now
+        (answer_text engine.new.live line_answer) engine.new) }
+    ensures called { OnOk result (Called W.answers engine.old.writer engine.new.writer) }
+    ensures fault { IfErr result (λ fault. (fault ≡ ScriptFault.NoMemory)
+        × CallFailed W.answers engine.old.writer engine.new.writer) }
+{
+    if let Some(most) = read_turn(bytes) {
+        return answer_line(engine, Line::Turn(most), first);
+    }
+    if let Some(packet) = read_packet(alloc, bytes) {
+        let (flow, body) = packet;
+        return answer_line(engine, Line::Send { flow, body }, first);
+    }
+    answer_bytes(alloc, engine, first, bytes)
 }
 
 #[inline(always)]
@@ -127,7 +153,7 @@ fn answer_bytes<W: TellingWriter + Drop, S: Rates + Drop>(
     }
 }
 
-// A fault of spelling is told before a spent life, and any other fault after it.
+// A fault of spelling is reported before a spent life, and any other fault after it.
 fn unread(refusal: Refusal, spent: bool) -> Refusal
     ensures { result ≡ (if is_syntax refusal then Syntax else if spent then Spent else refusal) }
 {
@@ -209,7 +235,7 @@ fn change<W: TellingWriter + Drop, S: Rates + Drop>(
     Outcome::Replied(engine.command(command))
 }
 
-// A writer over memory fails only for want of memory.
+// A writer over memory fails only if it lacks memory.
 #[inline(always)]
 fn turn<W: TellingWriter + Drop, S: Rates + Drop>(
     engine: &mut Engine<W, S>,

@@ -9,7 +9,7 @@ use std::marker::Model;
 /// How many bytes are read in one call, at most.
 pub(crate) const CHUNK: usize = 65536;
 
-/// What one read call gave, as far as it was not taken. A contract sees it as these bytes.
+/// The bytes that one read call gave and that were not taken. A contract sees it as these bytes.
 #[derive(Drop)]
 pub struct Chunk {
     buffer: Vec<u8>,

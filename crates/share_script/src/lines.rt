@@ -10,7 +10,7 @@ use share_text::MAX_LINE;
 use std::alloc::{AllocError, Global};
 use std::marker::Model;
 
-/// What the next line of a connection is.
+/// The next line of a connection.
 #[derive(Clone, Copy, Debug, PartialEq, Eq)]
 pub enum Incoming {
     /// A line, which is lent by `line`.
@@ -75,7 +75,7 @@ impl<R: TellingReader + Drop> IncomingLines<R> {
         Incoming::Line
     }
 
-    /// The line that was given last. It is empty where `next` gave none, and after a read.
+    /// The line that was given last. It is empty if `next` gave none, and after a read.
     pub fn line(&self) -> &[u8]
         ensures { result.now ≡ self.now.line }
     {
@@ -109,7 +109,7 @@ impl<R: TellingReader + Drop> IncomingLines<R> {
     }
 }
 
-// Of a line that was given nothing stays.
+// Nothing stays of a line that was given.
 fn end_given(kept: &mut Carry, is_given: bool)
     ensures { kept.new ≡ (if is_given then [] else kept.old) }
 {
@@ -118,7 +118,7 @@ fn end_given(kept: &mut Carry, is_given: bool)
     }
 }
 
-// Keeps the piece of the chunk up to its first line feed, which is passed; the whole chunk where it has none.
+// Keeps the piece of the chunk up to its first line feed, which is passed; the whole chunk if it has none.
 fn keep_line(kept: &mut Carry, chunk: &mut Chunk) -> bool
     ensures { IsPieceKept kept.old chunk.old result kept.new chunk.new }
 {

@@ -75,7 +75,7 @@ impl<T: Drop> From<AllocFailed<T>> for ScriptFault {
 
 /// Runs a script on a new link whose tape is empty. Each line is answered by a line of output, but `report` by the
 /// report of the link, and `audit 1` or `audit 2` as the first line by nothing: it chooses the version of the script,
-/// which is 1 where its first line is another. The answers to what one read gave are offered before
+/// which is 1 if its first line is another. The answers to what one read gave are offered before
 /// the next read is made. An interrupted read is made again; at most 2^32 reads are made. The run ends with the input,
 /// or at the first fault. A fault drops the link, and what was printed is then a beginning of the answers to the lines
 /// of what was read.
@@ -145,7 +145,7 @@ fn run_lines<S: Rates + Drop, I: TellingReader, O: TellingWriter>(
     Ok(())
 }
 
-// What a run keeps from one line to the next: the beginning of a line, and the answers that wait.
+// The state of a run from one line to the next: the beginning of a line, and the answers that wait.
 #[derive(Drop)]
 struct Pending {
     carry: Carry,

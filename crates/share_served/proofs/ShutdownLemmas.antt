@@ -1,4 +1,4 @@
--- What is found when a link is closed.
+-- The findings when a link is closed.
 use Rattle.std.proofs.Common.{◌≡◌, ◌&&◌, Bool, true, false, not, refl, subst, inl, inr}
 use Rattle.std.proofs.Common.{arith, ℕ, List, length, nat_eq, Option, Result, Ok, Err}
 use Rattle.std.specs.Prelude.{is_err}
@@ -40,7 +40,7 @@ new_of link journal none same version =
     let entries = nat_eq (length journal.entries) 0 in
     rw (none, version, same, nat_eq_same journal.life, and_true entries) refl
 
--- What closing a link found
+-- The findings of the close of a link
 
 module _ {W K O : Type 0} (kept : K → JournalView → Bool → Type 0) (told : O → Option Told)
     (answers : O → List ℕ → Answer → O → Type 0) (l : LockedView W) (ends : List EndView) (clerks : List ClerkView)

@@ -1,6 +1,6 @@
--- What is found when a link is settled after its service, and what its run comes to.
+-- The findings when a link is settled after its service, and the outcome of its run.
 use Rattle.std.specs.Prelude.{◌≡◌, ◌⊎◌, ◌||◌, ◌&&◌, ◌≤◌, ℕ, Bool, true, false, not, List, length, nat_eq}
-use Rattle.std.specs.Prelude.{Option, None, Some, Result, Err, MatchResult}
+use Rattle.std.specs.Prelude.{Option, None, Some, Result, Err, MatchResult, IfErr}
 use Rattle.std.specs.Io.KnownBytes.{Appends}
 use Rattle.share_base.specs.declared.version.Version.TheVariants.{Two}
 use Rattle.share_ingress.specs.Ends.{EndView}
@@ -16,8 +16,10 @@ use Rattle.share_model.specs.io.Calls.{Offers, OfferRefused}
 use Rattle.share_model.specs.io.Printing.{bytes_told, AppendsPart}
 use Rattle.share_model.specs.io.Told.{Told}
 use Rattle.share_model.specs.text.Report.{report}
-use Rattle.share_served.specs.Faults.{first_of, faults_of, no_fault}
+use Rattle.share_served.specs.Faults.{first_of, faults_of, no_fault, reason_of}
 use Rattle.share_served.specs.declared.faults.FoundFaults.{FoundFaults}
+use Rattle.share_served.specs.declared.faults.Reasons.{Reasons}
+use Rattle.share_served.specs.declared.faults.RunFault.{RunFault}
 use Rattle.share_served.specs.declared.faults.ServeFault.{ServeFault}
 use Rattle.share_served.specs.declared.faults.ServeFault.TheVariants.{Accept, Thread, Uplink as TornUplink, Life}
 use Rattle.share_served.specs.declared.faults.ServeFault.TheVariants.{Unsent as UnsentFault}
@@ -45,7 +47,7 @@ is_unsettled f = f.unsent || (f.left_over || (f.mismatch || f.memory))
 abbrev pub with_end : FoundFaults → Bool → Bool → Bool → FoundFaults
 with_end f uplink audit output = record f { uplink = uplink; audit = audit; output = output }
 
--- of what a served link wrote no contract knows
+-- no contract knows the bytes that a served link wrote
 abbrev pub untold : {W : Type 0} → W → Option Told
 untold writer = None
 
@@ -74,7 +76,7 @@ IsWritten told answers old new text false =
 IsWritten told answers old new text true =
     AppendsPart (bytes_told (told old)) (bytes_told (told new)) text × OfferRefused answers old new
 
--- What is found when a link is closed: how it is settled, whether its uplink is torn, and whether the audit of its own
+-- The findings when a link is closed: how it is settled, whether its uplink is torn, and whether the audit of its own
 -- journal and its report were lost. Its frames are of version 2, and the journal is its run.
 pub record IsClosing {W K O : Type 0} (kept : K → JournalView → Bool → Type 0) (told : O → Option Told)
     (answers : O → List ℕ → Answer → O → Type 0) (l : LockedView W) (ends : List EndView) (clerks : List ClerkView)
@@ -88,8 +90,12 @@ pub record IsClosing {W K O : Type 0} (kept : K → JournalView → Bool → Typ
   pub run : IsRunNow untold l.recorder.link l.recorder.entries
 
 -- the result of a run with these faults: the first of them, and Ok if there is none
-abbrev pub IsResultOf : {X : Type 0} → FoundFaults → Result X ServeFault → Type 0
-IsResultOf f result = MatchResult result (λ _. f ≡ no_fault) (λ fault. first_of (faults_of f) ≡ Some fault)
+abbrev pub IsResultOf : {X : Type 0} → FoundFaults → Result X RunFault → Type 0
+IsResultOf f result = MatchResult result (λ _. f ≡ no_fault) (λ fault. first_of (faults_of f) ≡ Some fault.kind)
+
+-- the fault of a result has its own reason of these, and no other
+abbrev pub HasItsReason : {X : Type 0} → Reasons → Result X RunFault → Type 0
+HasItsReason reasons result = IfErr result (λ fault. fault.reason ≡ reason_of reasons fault.kind)
 
 -- the writer of a served link
 abbrev pub UplinkWriter : Type 0
@@ -97,14 +103,16 @@ UplinkWriter = PlainWriter Uplink
 
 -- a run came to its end: its link was closed, and the result is the first fault that was found
 pub record IsRunClosed {X K O : Type 0} (kept : K → JournalView → Bool → Type 0) (told : O → Option Told)
-    (answers : O → List ℕ → Answer → O → Type 0) (keep : K) (old new : O) (result : Result X ServeFault) : Type 0 where
+    (answers : O → List ℕ → Answer → O → Type 0) (keep : K) (old new : O) (result : Result X RunFault) : Type 0 where
   pub locked : LockedView UplinkWriter
   pub ends : List EndView
   pub clerks : List ClerkView
   pub found : FoundFaults
   pub closed : FoundFaults
+  pub reasons : Reasons
   pub closing : IsClosing kept told answers locked ends clerks keep old new found closed
   pub result_is : IsResultOf closed result
+  pub reason_is : HasItsReason reasons result
 
 -- A run without a fault: its link was settled and is not broken, its frames are of version 2, the journal is its run,
 -- and all of the journal's audit and of the link's report was written.
@@ -139,11 +147,11 @@ RefusesToBegin journal Audit = ⊥
 RefusesToBegin journal Output = ⊥
 
 -- a run did not begin, and nothing was written
-pub record HasNotBegun {X O : Type 0} (journal : JournalView) (old new : O) (result : Result X ServeFault) : Type 0
+pub record HasNotBegun {X O : Type 0} (journal : JournalView) (old new : O) (result : Result X RunFault) : Type 0
   where
-    pub fault : ServeFault
+    pub fault : RunFault
     pub result_is : result ≡ Err fault
-    pub why : RefusesToBegin journal fault
+    pub why : RefusesToBegin journal fault.kind
     pub unwritten : new ≡ old
 
 -- how many connections of each kind a server accepts

@@ -75,7 +75,7 @@ impl<'a, R: Files> Drop for AuditFile<'a, R> {
     }
 }
 
-/// What is at a path. `None` if nothing is.
+/// The file at a path. `None` if there is nothing.
 pub fn found_at<R: Files>(files: &R, path: &str) -> io::Result<Option<Metadata>> {
     match fs::symlink_metadata(files, path) {
         Ok(found) => Ok(Some(found)),
@@ -104,7 +104,7 @@ fn rename<R: Files>(files: &R, from: &str, path: &str, is_forced: bool) -> io::R
     fs::rename(files, from, path)
 }
 
-// Gives the new file of a whole audit this path. If that fails, standard error tells where the audit is.
+// Gives the new file of a whole audit this path. If that fails, standard error names the file of the audit.
 fn take_name<R: Files + Eprint>(
     files: &R,
     beside: String,
@@ -215,7 +215,7 @@ impl<'a, R: Files> AuditFile<'a, R> {
     }
 
     /// Writes the audit of a journal, and gives it its name. If that fails, a regular file that was there before stays
-    /// as it was. An audit that is written and cannot take its name stays in the new file, which standard error tells.
+    /// as it was. An audit that is written and cannot take its name stays in the new file, which standard error names.
     pub fn write(self, journal: &Journal) -> io::Result<()>
     where
         R: Eprint,

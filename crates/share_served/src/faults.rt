@@ -1,12 +1,14 @@
-//! What went wrong in a run of the server, and which fault is told.
+//! The faults in a run of the server, and which one is reported.
 ghost use Rattle.std.specs.Prelude.{◌≡◌, None};
-ghost use Rattle.share_served.specs.Faults.{first_of, faults_of, no_fault};
+ghost use Rattle.share_served.specs.Faults.{first_of, faults_of, no_fault, reason_of};
 
 use share_base::Refusal;
+use share_connections::Reason;
 use std::alloc::AllocError;
+use std::fmt;
 use thiserror::Error;
 
-/// What went wrong in a run of the server.
+/// A fault in a run of the server.
 #[derive(Clone, Copy, Debug, PartialEq, Eq, Error)]
 pub enum ServeFault {
     /// A connection could not be accepted.
@@ -39,6 +41,48 @@ pub enum ServeFault {
     /// The report could not be written.
     #[error("cannot write the output")]
     Output,
+}
+
+/// The fault that is reported of a run, and the system's reason for it, if there is one.
+#[derive(Clone, Copy, Debug)]
+pub struct RunFault {
+    pub kind: ServeFault,
+    pub reason: Option<Reason>,
+}
+
+impl fmt::Display for RunFault {
+    fn fmt<W: fmt::Write>(&self, f: &mut fmt::Formatter<W>) -> fmt::Result {
+        let kind = self.kind;
+        match self.reason {
+            Some(reason) => write!(f, "{kind}: {reason}"),
+            None => write!(f, "{kind}"),
+        }
+    }
+}
+
+/// The reasons that the system gave for faults of a run. It gives none for a thread: the kit hands the work back,
+/// and no error with it.
+#[derive(Clone, Copy, Debug)]
+pub struct Reasons {
+    /// Why a connection could not be accepted.
+    pub accept: Option<Reason>,
+    /// Why the uplink is torn.
+    pub uplink: Option<Reason>,
+}
+
+impl Reasons {
+    /// A fault with its reason, if it has one.
+    pub fn explain(&self, kind: ServeFault) -> RunFault
+        ensures kind { result.kind ≡ kind }
+        ensures reason { result.reason ≡ reason_of self.now kind }
+    {
+        let reason = match kind {
+            ServeFault::Accept => self.accept,
+            ServeFault::Uplink => self.uplink,
+            _ => None,
+        };
+        RunFault { kind, reason }
+    }
 }
 
 /// Which faults a run had.
@@ -75,7 +119,7 @@ impl FoundFaults {
         }
     }
 
-    /// The fault that is told: the first one, in the order of `ServeFault`.
+    /// The fault that is reported: the first one, in the order of `ServeFault`.
     pub fn first(&self) -> Option<ServeFault>
         ensures first { result ≡ first_of (faults_of self.now) }
         ensures none { result ≡ None → self.now ≡ no_fault }
@@ -125,6 +169,29 @@ impl From<AllocError> for ServeFault {
     }
 }
 
+impl From<ServeFault> for RunFault {
+    ghost use Rattle.std.specs.Prelude.{◌≡◌};
+    ghost use Rattle.share_served.specs.Faults.{bare};
+
+    ghost from_gives = { λ kind fault. fault ≡ bare kind };
+
+    fn from(kind: ServeFault) -> RunFault {
+        RunFault { kind, reason: None }
+    }
+}
+
+impl From<AllocError> for RunFault {
+    ghost use Rattle.std.specs.Prelude.{◌≡◌};
+    ghost use Rattle.share_served.specs.Faults.{bare};
+    ghost use Rattle.share_served.specs.declared.faults.ServeFault.TheVariants.{NoMemory};
+
+    ghost from_gives = { λ _ fault. fault ≡ bare NoMemory };
+
+    fn from(_refused: AllocError) -> RunFault {
+        RunFault::from(ServeFault::NoMemory)
+    }
+}
+
 impl From<Refusal> for ServeFault {
     ghost use Rattle.std.specs.Prelude.{◌≡◌};
     ghost use Rattle.share_served.specs.declared.faults.ServeFault.TheVariants.{NoMemory};
@@ -133,5 +200,17 @@ impl From<Refusal> for ServeFault {
 
     fn from(_refused: Refusal) -> ServeFault {
         ServeFault::NoMemory
+    }
+}
+
+impl From<Refusal> for RunFault {
+    ghost use Rattle.std.specs.Prelude.{◌≡◌};
+    ghost use Rattle.share_served.specs.Faults.{bare};
+    ghost use Rattle.share_served.specs.declared.faults.ServeFault.TheVariants.{NoMemory};
+
+    ghost from_gives = { λ _ fault. fault ≡ bare NoMemory };
+
+    fn from(_refused: Refusal) -> RunFault {
+        RunFault::from(ServeFault::NoMemory)
     }
 }

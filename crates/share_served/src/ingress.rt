@@ -15,7 +15,7 @@ use std::{io, thread};
 /// How many reads and repeated offers a worker may make.
 const TURNS: u64 = 1 << 40;
 
-/// A reader of an ingress connection. The link is told when its worker has to wait for bytes, and when it waits no
+/// A reader of an ingress connection. The link hears when its worker has to wait for bytes, and when it waits no
 /// more. Once the link has ended it gives nothing, so that a client that still writes sees that nobody reads.
 #[derive(Drop)]
 pub struct PacedReader<'a> {
@@ -85,7 +85,7 @@ impl<'a, R: Wait> Gate for AtPace<'a, R> {
         self.connections.pace().ring();
     }
 
-    // A worker at the link's pace finds the queue full only when the link takes nothing any more.
+    // A worker at the link's pace finds the queue full only when the link has stopped taking offers.
     fn full(&mut self) -> bool {
         thread::yield_now();
         !self.connections.has_link_ended()

@@ -1,5 +1,5 @@
-//! What a served link has before and after its threads: its set-up, its places, its faults, the file of its audit, and
-//! its closing. Beside these, the work at one ingress connection.
+//! The parts of a served link before and after its threads: its set-up, its places, its faults, the file of its
+//! audit, and its closing. Beside these, the work at one ingress connection.
 #![tactic(auto)]
 
 mod audit_file;
@@ -10,7 +10,7 @@ mod shutdown;
 mod slots;
 
 pub use audit_file::{AuditFile, Keep, found_at, has_file};
-pub use faults::{FoundFaults, ServeFault};
+pub use faults::{FoundFaults, Reasons, RunFault, ServeFault};
 pub use ingress::{why_text, work};
 pub use setup::{Doors, Fresh, Plan, Setting, Sockets, set_up};
 pub use share_connections::Reason;

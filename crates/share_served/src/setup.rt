@@ -1,13 +1,15 @@
 //! A new link over its sockets, before it is served.
-ghost use Rattle.std.specs.Prelude.{◌≡◌, ◌≤◌, ◌⊎◌, [], true, IfOk, IfErr};
+ghost use Rattle.std.specs.Prelude.{◌≡◌, ◌≢◌, ◌≤◌, ◌⊎◌, [], true, IfOk, IfErr};
+ghost use Rattle.std.specs.IoError.{error_kind};
 ghost use Rattle.share_base.specs.declared.version.Version.TheVariants.{Two};
 ghost use Rattle.share_model.specs.lists.Each.{Each};
 ghost use Rattle.share_ingress.specs.Ends.{new_ends, new_intake};
+ghost use Rattle.share_served.specs.Faults.{bare};
 ghost use Rattle.share_served.specs.Shutdown.{CanServe, RefusesToBegin, is_new};
 
-use crate::faults::ServeFault;
+use crate::faults::{RunFault, ServeFault};
 use share_base::Version;
-use share_connections::{Connections, Listening, Uplink, Wire};
+use share_connections::{Connections, Listening, Reason, Uplink, Wire};
 use share_core::Engine;
 use share_ingress::{IngressEnd, Intake, queue};
 use share_journal::{Journal, Recorder};
@@ -29,7 +31,7 @@ pub struct Plan {
     pub workers: usize,
     /// How many control connections are accepted, before those.
     pub clerks: usize,
-    /// Whether standard error tells what happens.
+    /// Whether standard error prints what happens.
     pub is_verbose: bool,
 }
 
@@ -140,12 +142,17 @@ fn writer_over(alloc: Global, uplink: TcpStream) -> Result<(Arc<Wire>, Uplink), 
 }
 
 // What is wrong if listeners cannot be shared.
-fn fault_of_listeners(fault: &io::Error) -> ServeFault
-    ensures { (result ≡ ServeFault.NoMemory) ⊎ (result ≡ ServeFault.Accept) }
+fn fault_of_listeners(fault: io::Error) -> RunFault
+    ensures memory { error_kind fault ≡ ErrorKind.OutOfMemory → result ≡ bare ServeFault.NoMemory }
+    ensures others { error_kind fault ≢ ErrorKind.OutOfMemory → result.kind ≡ ServeFault.Accept }
+    ensures either { (result ≡ bare ServeFault.NoMemory) ⊎ (result.kind ≡ ServeFault.Accept) }
 {
     match fault.kind() {
-        ErrorKind::OutOfMemory => ServeFault::NoMemory,
-        _ => ServeFault::Accept,
+        ErrorKind::OutOfMemory => RunFault::from(ServeFault::NoMemory),
+        _ => RunFault {
+            kind: ServeFault::Accept,
+            reason: Some(Reason(fault)),
+        },
     }
 }
 
@@ -156,14 +163,14 @@ fn no_connections(
     control: &TcpListener,
     wire: Arc<Wire>,
     plan: Plan,
-) -> Result<Arc<Connections>, ServeFault>
-    ensures { IfErr result (λ fault. (fault ≡ ServeFault.NoMemory) ⊎ (fault ≡ ServeFault.Accept)) }
+) -> Result<Arc<Connections>, RunFault>
+    ensures { IfErr result (λ fault. (fault ≡ bare ServeFault.NoMemory) ⊎ (fault.kind ≡ ServeFault.Accept)) }
 {
     let listening = match Listening::of(control, ingress) {
         Ok(listening) => listening,
         Err(fault) => {
             drop(wire);
-            return Err(fault_of_listeners(&fault));
+            return Err(fault_of_listeners(fault));
         }
     };
     let pace = Pace::new(alloc, PLACES, plan.workers)?;
@@ -171,13 +178,13 @@ fn no_connections(
     let connections = Connections::new(alloc, listening, wire, pace, room, plan.is_verbose)?;
     match Arc::new(alloc, connections) {
         Ok(connections) => Ok(connections),
-        Err(_) => Err(ServeFault::NoMemory),
+        Err(_) => Err(RunFault::from(ServeFault::NoMemory)),
     }
 }
 
 // The listeners, with no connection yet, and the writer of the link.
-fn open_doors(alloc: Global, sockets: Sockets, plan: Plan) -> Result<(Doors, Uplink), ServeFault>
-    ensures { IfErr result (λ fault. (fault ≡ ServeFault.NoMemory) ⊎ (fault ≡ ServeFault.Accept)) }
+fn open_doors(alloc: Global, sockets: Sockets, plan: Plan) -> Result<(Doors, Uplink), RunFault>
+    ensures { IfErr result (λ fault. (fault ≡ bare ServeFault.NoMemory) ⊎ (fault.kind ≡ ServeFault.Accept)) }
 {
     let Sockets {
         ingress,
@@ -194,7 +201,7 @@ fn open_doors(alloc: Global, sockets: Sockets, plan: Plan) -> Result<(Doors, Upl
     Ok((doors, writer))
 }
 
-// Tells where the server listens.
+// Prints where the server listens.
 fn tell_addresses<R: Eprint>(rt: &R, doors: &Doors) {
     if let Ok(address) = doors.ingress.local_addr() {
         let line = format_args!("listening for ingress on {address}");
@@ -206,7 +213,7 @@ fn tell_addresses<R: Eprint>(rt: &R, doors: &Doors) {
     }
 }
 
-/// A new link with these sockets. Once all is there, it tells where the server listens.
+/// A new link with these sockets. Once all is there, it prints where the server listens.
 pub fn set_up<R: Eprint, S: Rates + Drop>(
     rt: &R,
     alloc: Global,
@@ -214,7 +221,7 @@ pub fn set_up<R: Eprint, S: Rates + Drop>(
     journal: Journal,
     sockets: Sockets,
     plan: Plan,
-) -> Result<Setting<S>, ServeFault>
+) -> Result<Setting<S>, RunFault>
     requires { CanServe plan.workers plan.clerks }
     ensures empty { IfOk result (λ s. s.fresh.recorder.entries ≡ []) }
     ensures version { IfOk result (λ s. s.fresh.recorder.link.live.version ≡ Two) }
@@ -224,7 +231,7 @@ pub fn set_up<R: Eprint, S: Rates + Drop>(
         × (s.fresh.ends.items ≡ new_ends s.fresh.intake.link PLACES plan.workers)) }
     ensures linked { IfOk result (λ s. Each (λ e. e.link ≡ s.fresh.intake.link) s.fresh.ends.items) }
     ensures clerks { IfOk result (λ s. s.clerks ≡ plan.clerks) }
-    ensures refused { IfErr result (RefusesToBegin journal) }
+    ensures refused { IfErr result (λ fault. RefusesToBegin journal fault.kind) }
 {
     let (doors, uplink) = match open_doors(alloc, sockets, plan) {
         Ok(both) => both,
@@ -244,9 +251,9 @@ pub fn set_up<R: Eprint, S: Rates + Drop>(
                 clerks,
             })
         }
-        Err(fault) => {
+        Err(kind) => {
             drop(doors);
-            Err(fault)
+            Err(RunFault::from(kind))
         }
     }
 }

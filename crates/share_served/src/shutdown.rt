@@ -1,12 +1,12 @@
-//! What is done with a link after its service.
+//! The work on a link after its service.
 ghost use Rattle.std.specs.Prelude.{◌≡◌, not};
 ghost use Rattle.share_model.specs.lists.Each.{Each};
 ghost use Rattle.share_model.specs.text.Report.{report};
 ghost use Rattle.share_served.specs.Shutdown.{journal_of, with_want, with_end, IsWritten, IsClosing};
 
 use crate::audit_file::Keep;
-use crate::faults::FoundFaults;
-use share_connections::{Connections, Uplink};
+use crate::faults::{FoundFaults, Reasons};
+use share_connections::{Connections, Reason, Uplink};
 use share_ingress::IngressEnd;
 use share_journal::{Journal, Recorder, Source};
 use share_locked::{Clerk, LinkBrand, Locked, Unsettled, WhyUnsettled, settle};
@@ -14,7 +14,7 @@ use share_model::{PlainWriter, Rates, TellingWriter};
 use share_report::report;
 use std::alloc::Global;
 use std::io::Eprint;
-use std::sync::Arc;
+use std::sync::{Arc, Wait};
 use std::time::Clock;
 
 /// A link after its service, with the ends of its queue, its clerks, and what went wrong in its run.
@@ -25,6 +25,18 @@ pub struct EndedLink<S: Rates, L: LinkBrand> {
     pub clerks: Vec<Clerk<L>>,
     pub connections: Arc<Connections>,
     pub found: FoundFaults,
+}
+
+impl<S: Rates, L: LinkBrand> EndedLink<S, L> {
+    /// The reasons that the system gave for faults of the run.
+    pub fn reasons<R: Wait>(&self, rt: &R) -> Reasons {
+        let accept = self.connections.accept_fault(rt);
+        let uplink = self.connections.wire().fault();
+        Reasons {
+            accept: accept.map(|fault| Reason(fault)),
+            uplink: uplink.map(|fault| Reason(fault)),
+        }
+    }
 }
 
 /// How many entries of each kind a journal has.
@@ -117,7 +129,7 @@ fn finish_unsettled<S: Rates + Drop, L: LinkBrand, R: Clock + Eprint, K: Keep, O
     found
 }
 
-/// Settles the link, and writes its audit and its report, also if it was not settled. All that was found is among the
+/// Settles the link, and writes its audit and its report, even if it was not settled. All that was found is among the
 /// faults, and nothing else.
 pub fn close<S: Rates + Drop, L: LinkBrand, R: Clock + Eprint, K: Keep, O: TellingWriter>(
     rt: &R,

@@ -1,4 +1,4 @@
-//! What the threads of connections take, and give back at their ends.
+//! The slots that the threads of connections take, and give back at their ends.
 ghost use Rattle.std.specs.Prelude.{◌≡◌, ◌≤◌, ◌+◌, [], IfOk, vec_len, vec_capacity};
 ghost use Rattle.share_model.specs.lists.Each.{Each};
 

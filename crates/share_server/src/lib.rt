@@ -6,4 +6,4 @@ mod serve;
 mod threads;
 
 pub use serve::serve_on;
-pub use share_served::{AuditFile, Keep, Plan, ServeFault, Sockets, found_at};
+pub use share_served::{AuditFile, Keep, Plan, Reason, RunFault, ServeFault, Sockets, found_at};

@@ -2,7 +2,9 @@
 ghost use Rattle.std.specs.Prelude.{◌≡◌, ◌≤◌, ◌⊎◌, [], Err, OnOk, vec_len, vec_capacity};
 ghost use Rattle.share_base.specs.declared.version.Version.TheVariants.{Two};
 ghost use Rattle.share_model.specs.lists.Each.{Each};
-ghost use Rattle.share_served.specs.Shutdown.{CanServe, HasNotBegun, IsResultOf, IsRunClosed, WasServed};
+ghost use Rattle.share_served.specs.Faults.{bare};
+ghost use Rattle.share_served.specs.declared.faults.ServeFault.TheVariants.{NoMemory};
+ghost use Rattle.share_served.specs.Shutdown.{CanServe, HasItsReason, HasNotBegun, IsResultOf, IsRunClosed, WasServed};
 
 use crate::threads::{Server, run};
 use share_connections::end_at_eof;
@@ -11,7 +13,7 @@ use share_journal::Journal;
 use share_locked::{Clerk, LinkBrand, Locked};
 use share_model::{Rates, TellingWriter};
 use share_served::{
-    Doors, EndedLink, FoundFaults, Fresh, Keep, Places, Plan, ServeFault, Setting, Sockets,
+    Doors, EndedLink, FoundFaults, Fresh, Keep, Places, Plan, Reasons, RunFault, Setting, Sockets,
     all_clerks, all_ends, close, filled, make_places, set_up, with_clerks,
 };
 use std::alloc::Global;
@@ -24,8 +26,8 @@ use std::time::Clock;
 /// Serves a new link of version 2 with this journal, which is empty and of version 2, over these sockets: accepts the
 /// control connections and then the ingress connections, and runs until all have ended and what they brought is sent.
 /// Then it settles, keeps the audit, and writes the report to the output, both even if something went wrong. If a
-/// reader is given, its end ends the connections. The error is the first fault, in the order of `ServeFault`. If the
-/// run cannot begin, nothing is kept and nothing is written.
+/// reader is given, its end ends the connections. The error is the first fault, in the order of `ServeFault`, with the
+/// system's reason for it. If the run cannot begin, nothing is kept and nothing is written.
 pub fn serve_on<R, S, I, K, O>(
     rt: &R,
     alloc: Global,
@@ -36,7 +38,7 @@ pub fn serve_on<R, S, I, K, O>(
     until: Option<I>,
     keep: K,
     output: &mut O,
-) -> Result<(), ServeFault>
+) -> Result<(), RunFault>
 where
     R: Threads + Wait + Clock + Eprint + Copy + Send + Sync + 'static,
     S: Rates + Send + Drop,
@@ -66,7 +68,7 @@ fn serve_as<R, S, I, K, O, L>(
     until: Option<I>,
     keep: K,
     output: &mut O,
-) -> Result<(), ServeFault>
+) -> Result<(), RunFault>
 where
     R: Threads + Wait + Clock + Eprint + Copy + Send + Sync + 'static,
     S: Rates + Send + Drop,
@@ -81,29 +83,31 @@ where
     requires linked { Each (λ e. e.link ≡ L.link) setting.fresh.ends.items }
     requires clerks { setting.clerks ≤ 8 }
     ensures { IsRunClosed K.kept O.told O.answers keep output.old output.new result
-        ⊎ ((result ≡ Err ServeFault.NoMemory) × (output.new ≡ output.old)) }
+        ⊎ ((result ≡ Err (bare NoMemory)) × (output.new ≡ output.old)) }
 {
     match make_places(alloc, setting.fresh.ends.len(), setting.clerks) {
         Ok(places) => {
             let ended = serve_all::<R, S, I, L>(rt, alloc, setting, places, until);
-            told(close(rt, alloc, ended, keep, output))
+            let reasons = ended.reasons(rt);
+            told(close(rt, alloc, ended, keep, output), reasons)
         }
         Err(refused) => {
             drop(setting);
             drop(until);
             drop(keep);
-            Err(ServeFault::from(refused))
+            Err(RunFault::from(refused))
         }
     }
 }
 
-// The result of a run with these faults.
-fn told(found: FoundFaults) -> Result<(), ServeFault>
-    ensures { IsResultOf found result }
+// The result of a run with these faults and reasons.
+fn told(found: FoundFaults, reasons: Reasons) -> Result<(), RunFault>
+    ensures result { IsResultOf found result }
+    ensures reason { HasItsReason reasons result }
 {
     match found.first() {
         None => Ok(()),
-        Some(fault) => Err(fault),
+        Some(kind) => Err(reasons.explain(kind)),
     }
 }
 

@@ -6,7 +6,7 @@ use share_control::{Attended, How, attend};
 use share_locked::{Attendant, Clerk, LinkBrand, LinkEnd, Port, serve_while};
 use share_model::{PlainReader, PlainWriter, Rates};
 use share_script::IncomingLines;
-use share_served::{FoundFaults, LinkedEnd, Reason, Slot, why_text, work};
+use share_served::{FoundFaults, LinkedEnd, Slot, why_text, work};
 use std::alloc::Global;
 use std::io::{Eprint, ErrorKind};
 use std::net::{TcpListener, TcpStream};
@@ -63,7 +63,7 @@ impl<'a, R: Wait + Eprint, S: Rates, L: LinkBrand> Attendant for Teller<'a, R, S
     }
 }
 
-/// What the threads share.
+/// The values that the threads share.
 #[derive(Drop)]
 pub struct Server<S: Rates, L: LinkBrand> {
     pub alloc: Global,
@@ -188,9 +188,7 @@ fn accept<R: Wait + Eprint, S: Rates, L: LinkBrand>(
     match accepted(rt, server, kind, number) {
         Ok(stream) => stream,
         Err(fault) => {
-            let reason = Reason(fault);
-            let line = format_args!("cannot accept a connection: {reason}");
-            server.connections.tell(rt, line);
+            server.connections.not_accepted(rt, fault);
             if fault.kind() == ErrorKind::OutOfMemory {
                 found.memory = true;
             } else {

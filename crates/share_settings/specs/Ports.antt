@@ -1,4 +1,4 @@
--- What a contract sees of a tenant's ports.
+-- The view of a tenant's ports in contracts.
 use Rattle.std.specs.Prelude.{ℕ, List}
 use Rattle.share_settings.specs.declared.port.Port.{Port}
 

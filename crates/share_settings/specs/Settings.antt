@@ -1,4 +1,4 @@
--- What a contract sees of the settings of a gateway.
+-- The view of the settings of a gateway in contracts.
 use Rattle.std.specs.Prelude.{List, Option}
 use Rattle.share_model.specs.declared.rates.Rate.{Rate}
 use Rattle.share_gateway.specs.Plan.{PlanView}

@@ -1,4 +1,4 @@
-//! What a gateway is set to do: its uplink, books, control, ports, downlink, web listener, tariffs and plan. No file is
+//! The settings of a gateway: its uplink, books, control, ports, downlink, web listener, tariffs and plan. No file is
 //! read here.
 #![tactic(auto)]
 

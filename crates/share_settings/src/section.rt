@@ -13,7 +13,7 @@ pub struct Uplink {
     pub buffer: u64,
 }
 
-/// What stands in the text of a book.
+/// The content of the text of a book.
 #[derive(Clone, Copy, Debug, PartialEq, Eq)]
 pub enum BookText {
     /// The lengths of payloads.

@@ -1,4 +1,4 @@
--- What a call came to that moves one packet.
+-- The outcome of a call that moves one packet.
 use Rattle.std.specs.Prelude.{ℕ, Bool, false, ◌||◌, ◌==◌, ℤ, pos, negsuc, Option, None, Some}
 use Rattle.share_sockets.specs.declared.received.Received.{Received}
 use Rattle.share_sockets.specs.declared.received.Received.TheVariants.{Packet, Again, Waits, Over}

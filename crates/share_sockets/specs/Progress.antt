@@ -1,4 +1,4 @@
--- What a call came to that does not wait.
+-- The outcome of a call that does not wait.
 use Rattle.std.specs.Prelude.{◌≡◌, ℕ, Bool, true, false, Result, Ok, MatchResult}
 use Rattle.std.specs.IoError.{error_kind}
 use Rattle.std.specs.declared.io.Error.{Error}

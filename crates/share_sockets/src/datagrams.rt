@@ -18,7 +18,7 @@ use std::net::{Net, SocketAddr};
 use std::os::fd::AsRawFd;
 
 /// A socket whose datagrams go to an address, and to which those from there alone come. Its calls do not wait. Unlike a
-/// `PacketSocket` it says if it has no room for a datagram, or if it has failed, so that none is lost at the near end.
+/// `PacketSocket` it says if it has no room for a datagram, or if it has failed. So none is lost at the near end.
 #[derive(Drop)]
 pub struct DatagramSocket {
     socket: UdpSocket,

@@ -36,12 +36,12 @@ impl Device {
         }
     }
 
-    /// Its events are not reported any more.
+    /// Its events are not reported from this call on.
     pub fn deregister(&self, registry: &Registry) -> io::Result<()> {
         registry.deregister(&mut SourceFd(&self.number))
     }
 
-    /// Reads one packet. What does not fit the buffer is lost.
+    /// Reads one packet. Bytes that do not fit the buffer are lost.
     pub fn receive(&self, buffer: &mut [u8]) -> io::Result<Received>
         ensures length { IfOk result (λ came. packet_length came ≤ length buffer.new) }
         ensures fault { IfErr result IsFailure }

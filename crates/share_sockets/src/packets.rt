@@ -71,7 +71,7 @@ impl PacketSocket {
         }
     }
 
-    /// Its events are not reported any more.
+    /// Its events are not reported from this call on.
     pub fn deregister(&mut self, registry: &Registry) -> io::Result<()> {
         match self {
             PacketSocket::Bound(socket) => registry.deregister(socket),
@@ -80,7 +80,7 @@ impl PacketSocket {
         }
     }
 
-    /// Reads one packet. What does not fit the buffer is lost.
+    /// Reads one packet. Bytes that do not fit the buffer are lost.
     pub fn receive(&self, buffer: &mut [u8]) -> io::Result<Received>
         ensures length { IfOk result (λ came. packet_length came ≤ length buffer.new) }
         ensures fault { IfErr result IsFailure }

@@ -1,4 +1,4 @@
-//! What a call came to that does not wait.
+//! The outcome of a call that does not wait.
 ghost use Rattle.std.specs.Prelude.{◌≡◌, ◌≤◌, ◌≢◌, true, IfOk, IfErr};
 ghost use Rattle.std.specs.IoError.{error_kind};
 ghost use Rattle.share_sockets.specs.Failure.{IsFailure};
@@ -7,7 +7,7 @@ ghost use Rattle.share_sockets.specs.declared.progress.Progress.TheVariants.{Mov
 
 use std::io::{Error, ErrorKind, Result};
 
-/// What a read or a write of at least one byte came to.
+/// The outcome of a read or a write of at least one byte.
 #[derive(Clone, Copy, Debug, PartialEq, Eq)]
 pub enum Progress {
     /// This many bytes went, at least one.
@@ -20,7 +20,7 @@ pub enum Progress {
     Over,
 }
 
-/// What the answer to such a call comes to. An error that is no pause is a failure of the stream.
+/// The outcome of the answer to such a call. An error that is not a pause is a failure of the stream.
 pub fn outcome_of(answer: Result<usize>) -> Result<Progress>
     ensures moved { IfOk answer (λ count. 1 ≤ count → result ≡ Ok (Moved count)) }
     ensures end { IfOk answer (λ count. count ≡ 0 → result ≡ Ok Over) }
@@ -36,7 +36,7 @@ pub fn outcome_of(answer: Result<usize>) -> Result<Progress>
     }
 }
 
-// What a fault comes to.
+// The outcome of a fault.
 fn outcome_after(fault: Error) -> Result<Progress>
     ensures waits { error_kind fault ≡ ErrorKind.WouldBlock → result ≡ Ok Waits }
     ensures again { error_kind fault ≡ ErrorKind.Interrupted → result ≡ Ok Again }

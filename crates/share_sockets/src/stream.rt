@@ -76,7 +76,7 @@ impl Stream {
         }
     }
 
-    /// Ends the half of the stream that is written. What was written goes out before that.
+    /// Ends the half of the stream that is written. Written bytes go out before that.
     pub fn end_writing(&self) {
         let _ = match self {
             Stream::Tcp(stream) => stream.shutdown(Shutdown::Write),

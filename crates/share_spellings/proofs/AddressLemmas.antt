@@ -24,7 +24,7 @@ use Rattle.std.proofs.NetLemmas.Ipv6.{read_ipv6_complete, read_ipv6_sound, EndsG
 use Rattle.share_spellings.specs.Addresses.{whole, or_else, mapped, ipv4, ipv6, socket_v4, socket_v6, socket_of}
 use Rattle.share_spellings.specs.Addresses.{host_v4, host_v6, host_of, after}
 
--- what was read as a whole is in the grammar of its kind
+-- a text that was read as a whole is in the grammar of its kind
 at_whole : {A : Type 0} (Spells : List ℕ → A → Type 0) (text : List ℕ) (o : Option (A × List ℕ))
     → ((a : A) (rest : List ℕ) → o ≡ Some (a, rest) → (front : List ℕ) × (text ≡ front ++ rest) × Spells front a)
     → (a : A) → whole o ≡ Some a → Spells text a
@@ -60,7 +60,7 @@ is_after prefix text rest e =
     (bytes_eq-Decides (take (length prefix) text) prefix).1 front in
     rw same (ap Some back)
 
--- what `strip_prefix` finds
+-- the finding of `strip_prefix`
 pub stripped : (prefix text : List ℕ) (r : Option (Bor (List ℕ)))
     → MatchOption r (FindsTextPrefix prefix text None) (λ x. StripsPrefix (FindsTextPrefix prefix) text x.now)
     → MatchOption r (after prefix text ≡ None) (λ rest. after prefix text ≡ Some rest.now)

@@ -20,7 +20,7 @@ use Rattle.share_settings.specs.declared.port.Port.{Port}
 use Rattle.share_settings.specs.declared.port.Port.TheVariants as port
 use Rattle.share_spellings.specs.Amounts.{number_of}
 
--- what was read, if it is the whole text
+-- the reading, if it is the whole text
 abbrev pub whole : {A : Type 0} → Option (A × List ℕ) → Option A
 whole None = None
 whole (Some (a, [])) = Some a
@@ -70,7 +70,7 @@ with_port (Some a) = if socket_port a == 0 then None else Some a
 abbrev pub address_of : List ℕ → Option SocketAddr
 address_of text = with_port (socket_of text)
 
--- what follows a prefix
+-- the text after a prefix
 abbrev pub after : List ℕ → List ℕ → Option (List ℕ)
 after prefix text = if bytes_eq (take (length prefix) text) prefix then Some (drop (length prefix) text) else None
 
@@ -85,7 +85,7 @@ peer_of text = peer_by text (after (codes "udp:") text)
 abbrev pub is_no_zero : ℕ → Bool
 is_no_zero b = not (b == 0)
 
--- at least one byte and at most so many, none of which is zero
+-- at least one byte and at most that many, none of which is zero
 abbrev pub is_path : ℕ → List ℕ → Bool
 is_path most text = not (length text == 0) && nat_le (length text) most && list_all is_no_zero text
 

@@ -135,7 +135,7 @@ fn read_descriptor(text: &str) -> Option<u32>
     }
 }
 
-// What follows a prefix. `None` if the text does not begin with it.
+// The text after a prefix. `None` if the text does not begin with it.
 fn after<'a>(text: &'a str, prefix: &str) -> Option<&'a str>
     ensures { MatchOption result (after prefix.now text.entry.now ≡ None)
         (λ rest. after prefix.now text.entry.now ≡ Some rest.now) }

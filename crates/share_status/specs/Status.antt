@@ -86,7 +86,7 @@ grant_of g = object_of (grant_members g)
 abbrev pub grants_of : List Grant → Json
 grants_of grants = array_of (map grant_of grants)
 
--- what the plan says of a tenant, and what its grants are worth
+-- the plan's entry of a tenant, and the worth of its grants
 unfoldable pub tenant_plan : TenantStatus → List (List ℕ × Json)
 tenant_plan t =
     (codes "name", string t.name)

@@ -17,11 +17,11 @@ pub enum UplinkState {
 pub struct UplinkStatus {
     pub state: UplinkState,
     pub address: SocketAddr,
-    /// What the sockets of the uplink took.
+    /// The frames that the sockets of the uplink took.
     pub sent: u64,
-    /// What was scheduled, and the socket has not taken yet.
+    /// The frames that were scheduled, and that the socket has not taken yet.
     pub outbox: u64,
-    /// What may have been lost with connections of the uplink.
+    /// The frames that may have been lost with connections of the uplink.
     pub lost: u64,
 }
 
@@ -38,7 +38,7 @@ pub struct TenantStatus<'a> {
     pub name: Name,
     pub flow: u32,
     pub held: bool,
-    /// What its grants are worth.
+    /// The worth of its grants.
     pub tickets: u32,
     pub grants: &'a [Grant],
     /// How many of its packets wait.
@@ -80,7 +80,7 @@ pub struct DownlinkStatus {
 #[derive(Clone, Copy, Debug)]
 pub struct Status<'a> {
     pub version: &'a str,
-    /// What the program is proved with.
+    /// The toolchain that proved the program.
     pub proved: &'a str,
     /// The number of the open book.
     pub book: u64,

@@ -1,4 +1,4 @@
--- What a contract sees of a heap: for each key its entry, or none.
+-- The view of a heap in contracts: for each key its entry, or none.
 use Rattle.std.specs.Prelude.{◌≡◌, ℕ, ◌≤◌, ℤ, List, length, map, Option, None, Some, slice_index_or, refl}
 use Rattle.std.specs.Coded.{Coded, code_by, coded×, coded_ℕ, coded_ℤ, coded_list, coded_option}
 use Rattle.share_stride.specs.declared.seating.HeapEntry.{HeapEntry}

@@ -1,4 +1,4 @@
--- What a queue keeps beside its value.
+-- The values that a queue keeps beside its value.
 use Rattle.std.specs.Prelude.{◌≡◌, ℕ, ◌+◌, ◌-◌, ◌*◌, ◌/◌}
 use Rattle.share_model.specs.declared.stride.GlobalPart.{GlobalPart}
 use Rattle.share_model.specs.stride.Moves.{Stride, stride_of, total}

@@ -108,7 +108,7 @@ pub record KeepsOthers (key old_count : ℕ) (old_entries : List HeapEntry) (old
   pub kept : (k : ℕ) → k < length old_entries → k ≢ key
       → standing_of count entries seats k ≡ standing_of old_count old_entries old_seats k
 
--- the open seat has gone up, and if no entry below it was before this one, none is now
+-- the open seat has gone up, and if no entry below it was before this one, none is before it
 pub record HoleRises (old_entries : List HeapEntry) (old_seats : List ℕ) (old_hole : ℕ) (entries : List HeapEntry)
     (seats : List ℕ)
     (hole : ℕ) (entry : HeapEntry) : Type 0 where

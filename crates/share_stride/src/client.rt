@@ -40,7 +40,7 @@ pub(crate) fn stride_of(tickets: u64) -> u64
     }
 }
 
-/// What a charge adds to a pass.
+/// The part of a charge that is added to a pass.
 pub(crate) fn share(stride: u64, units: u64) -> u128
     ensures { result ≡ stride * units / QUANTUM }
 {
@@ -148,7 +148,7 @@ pub(crate) fn after_charge(client: &Client, units: u64) -> Client
     charged
 }
 
-/// What is read of a client.
+/// The readings of a client.
 pub(crate) fn position(client: &Client) -> Position
     ensures { result ≡ model_position client.now }
 {

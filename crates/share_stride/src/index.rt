@@ -79,7 +79,7 @@ impl Index {
 }
 
 // Where the pair of a flow is, or where it would go. If no flow between the first one and it was removed, its place is
-// how far its number is past the first, so that place is tried before the search.
+// how far its number is past the first. So that place is tried before the search.
 fn place_of(pairs: &[(FlowNo, usize)], flow: FlowNo) -> Result<usize, usize>
     requires { IsRising pairs.now }
     ensures found { IfOk result (IsAt pairs.now flow) }

@@ -151,7 +151,7 @@ impl Queue {
         }
     }
 
-    /// Levels a client: afterwards it competes with these tickets, at most 2^20, or does not compete if they are none.
+    /// Levels a client: afterwards it competes with these tickets, at most 2^20, or does not compete if they are 0.
     /// It joins, leaves or changes its tickets only if it has to; otherwise nothing changes. It never fails.
     pub fn level(&mut self, flow: FlowNo, tickets: u32)
         requires there { IsSome (map.get self.old.clients flow) }
@@ -198,7 +198,7 @@ impl Queue {
         }
     }
 
-    /// Removes a client that does not compete. What it was charged stays in the clock. It never fails.
+    /// Removes a client that does not compete. Its charges stay in the clock. It never fails.
     pub fn remove(&mut self, flow: FlowNo)
         requires there { IsSome (map.get self.old.clients flow) }
         requires idle { (model_client self.old flow).competes ≡ false }
@@ -223,7 +223,8 @@ impl Queue {
         self.clients.find(flow).is_some()
     }
 
-    /// What is read of the client of a flow: its tickets, its stride, and its pass if it competes, else its remain.
+    /// The readings of the client of a flow: its tickets, its stride, and its pass if it competes, otherwise
+    /// its remain.
     pub fn position(&self, flow: FlowNo) -> Position
         requires { IsSome (map.get self.now.clients flow) }
         ensures value { result ≡ model_position (model_client self.now flow) }
@@ -237,8 +238,9 @@ impl Queue {
         }
     }
 
-    /// What all clients share: the tickets of those that compete, the global pass, the clock at the last update of the
-    /// global pass, and the clock, in units. Each join and each leave updates the global pass.
+    /// The values that all clients share: the tickets of those that compete, the global pass, the clock at the
+    /// last update of the global pass, and the clock, in units. Each join and each leave updates the global
+    /// pass.
     pub fn global(&self) -> GlobalPart
         ensures value { result ≡ global_part self.now }
 

@@ -108,7 +108,7 @@ impl Seating {
         }
     }
 
-    // Of the seats right below the open seat, that with the first entry.
+    // The seat with the first entry, of those right below the open seat.
     fn first_below(&self, hole: usize, count: usize) -> Option<usize>
         requires { count ≤ length self.now.entries.items }
         ensures first { IfSome result (IsFirstBelow count self.now.entries.items hole) }

@@ -1,2 +1,2 @@
-pub mod Cells
-pub mod Shelves
+pub mod CellLemmas
+pub mod ShelfLemmas

@@ -1,4 +1,4 @@
--- What a contract sees of a shelf of the plain rule.
+-- The view of a shelf of the plain rule in contracts.
 use Rattle.std.specs.Prelude.{◌≡◌, true, ◌&&◌, List, [], ◌∷◌, length, nat_le}
 use Rattle.std.specs.List.{list_all}
 use Rattle.std.proofs.lemmas.Bool.{and_parts, leb-true}

@@ -1,4 +1,4 @@
--- What a contract sees of tariffs and of their shelf.
+-- The view of tariffs and of their shelf in contracts.
 use Rattle.std.specs.Prelude.{◌≤◌, List, [], ◌∷◌, map}
 use Rattle.std.proofs.Common.{◌∙◌, sym, subst}
 use Rattle.std.proofs.lemmas.List.{length-map}
@@ -10,7 +10,7 @@ use Rattle.share_tariff.specs.declared.tariff.Tariff.{Tariff}
 use Rattle.share_tariff.specs.declared.shelf.Shelf.{Shelf}
 
 -- the two closures of a tariff may be of any types: A and B are these, C and D what they hold, and charge and book say
--- what a call of each gives
+-- the result of a call of each
 module _ {A B : Type 0} {C : A → Type 0} {D : B → Type 0} {charge : _} {book : _} where
   -- the numbers of a tariff
   abbrev pub rate_in : Tariff A B C D charge book → Rate

@@ -1,4 +1,4 @@
-//! What holds of every tariff. A function here does nothing. Its contract is a law, and is proved.
+//! Laws of every tariff. A function here does nothing. Its contract is a law, and is proved.
 ghost use Rattle.std.specs.Prelude.{◌≡◌, ◌<◌, ◌≤◌, ◌+◌, ◌*◌, ℕ};
 ghost use Rattle.share_model.specs.declared.rates.Rate.{Rate};
 ghost use Rattle.share_model.specs.link.Tariff.{units_of};

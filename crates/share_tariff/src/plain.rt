@@ -1,4 +1,4 @@
-//! The rule of a tariff as plain functions, for whoever stores it in the closures of a tariff.
+//! The rule of a tariff as plain functions, for anyone who stores it in the closures of a tariff.
 ghost use Rattle.std.specs.Prelude.{◌≡◌, ◌≤◌, ◌+◌, ◌*◌, ◌-◌, ◌^◌, ℕ, max, min, true};
 ghost use Rattle.share_model.specs.link.Tariff.{is_rate, units_of};
 

@@ -9,7 +9,7 @@ use Rattle.std.proofs.lemmas.List.{length-set, take-append-drop, take_more}
 use Rattle.std.proofs.lemmas.List.{take_more_set}
 use Rattle.share_model.specs.text.Lines.{hex, hex_digit}
 use Rattle.share_model.specs.io.Printing.{AppendsPart}
-use Rattle.share_model.proofs.lemmas.io.PrintingLaws.{part_after, part_longer}
+use Rattle.share_model.proofs.lemmas.io.PrintingLemmas.{part_after, part_longer}
 use Rattle.std.proofs.KnownBytes.{Appends-nil}
 
 -- Digits

@@ -10,19 +10,20 @@ use Rattle.std.proofs.lemmas.List.Splits.{slice_split_none, join_with_byte-slice
 use Rattle.std.proofs.lemmas.List.Elements.{All-from_recursion}
 use Rattle.std.proofs.lemmas.Bool.Decides.{nat_tests}
 use Rattle.std.proofs.lemmas.Bool.{and_parts}
-use Rattle.share_base.specs.Body.{unstamped}
+use Rattle.share_base.specs.Body.{BodyView, unstamped}
 use Rattle.share_base.specs.declared.version.Version.{Version}
+use Rattle.share_base.specs.declared.version.Version.TheVariants.{One, Two}
 use Rattle.share_base.specs.Version.{max_payload}
 use Rattle.share_base.specs.declared.refusal.Refusal.{Refusal}
 use Rattle.share_base.specs.declared.refusal.Refusal.TheVariants.{NoMemory, Syntax, Range}
 use Rattle.share_model.specs.declared.line.Line.{Line}
-use Rattle.share_model.specs.declared.line.Line.TheVariants.{Send}
+use Rattle.share_model.specs.declared.line.Line.TheVariants.{Send, Turn}
 use Rattle.share_model.specs.text.Lines.{is_pairs, from_pairs, name_of, payload_of, field, words_of, send_of, line_by}
 use Rattle.share_model.specs.text.Lines.{is_space, number_of, turn_of}
 use Rattle.share_model.specs.text.Lines.{line_of, line_or_refusal, reading, ReadsLine, IsReading, IsUnread}
-use Rattle.share_model.proofs.lemmas.text.WordLaws.{payload_of-only, number_of-only, hex-from_pairs}
-use Rattle.share_model.proofs.lemmas.text.WordLaws.{NoSpace, no_space-decimal, no_space-hex}
-use Rattle.share_model.proofs.lemmas.text.LinesLaws.{reading-spelling_of, reading-refused}
+use Rattle.share_model.proofs.lemmas.text.WordLemmas.{payload_of-only, number_of-only, hex-from_pairs}
+use Rattle.share_model.proofs.lemmas.text.WordLemmas.{NoSpace, no_space-decimal, no_space-hex}
+use Rattle.share_model.proofs.lemmas.text.LineLemmas.{reading-spelling_of, reading-refused}
 use Rattle.share_text.specs.Words.{last, short_line_by, line_sent_by, ReadsRanged}
 
 -- Packets
@@ -95,14 +96,14 @@ sent_whole version flow digits bytes count is half all few =
 
 -- The last field
 
--- what holds no space is one word
+-- bytes without a space are one word
 one_word : (w : List ℕ) → NoSpace w → words_of w ≡ w ∷ []
 one_word w clear = slice_split_none is_space w (All-from_recursion _ w clear)
 
 one_word-only : (w bs : List ℕ) → words_of bs ≡ w ∷ [] → w ≡ bs
 one_word-only w bs one = ap (join_with_byte 32) (sym one) ∙ join_with_byte-slice_split 32 bs
 
--- a field that no bytes with a space spell is the last word exactly where all bytes spell it
+-- a field that no bytes with a space spell is the last word if and only if all bytes spell it
 last_is_all : {A : Type 0} (f : List ℕ → Option A) (bs : List ℕ) → ((x : A) → f bs ≡ Some x → NoSpace bs)
     → last f (words_of bs) ≡ f bs
 last_is_all {A} f bs clear = by (f bs) refl (words_of bs) refl
@@ -203,3 +204,43 @@ reads-refused version bs (Err e) (inr none) =
     let q : NoMemory ≡ e = cc in
     let P : Refusal → Type 0 = λ x. IsUnread version bs x in
     subst P q (none.1.0, reading-spelling_of version bs none.1.0 none.1.1, none.1.2)
+
+-- A turn
+
+turn_of-last : (ws : List (List ℕ)) (most : ℕ) → last number_of ws ≡ Some most → turn_of ws ≡ Some (Turn most)
+turn_of-last [] most e = let q : None ≡ Some most = e in cc
+turn_of-last (w ∷ []) most e = rw e refl
+turn_of-last (w ∷ v ∷ ws) most e = let q : None ≡ Some most = e in cc
+
+-- the words of a turn in range were read
+pub turn_read : (version : Version) (bs : List ℕ) (ws : List (List ℕ)) (most : ℕ) → length bs ≤ 20480
+    → words_of bs ≡ codes "turn" ∷ ws → last number_of ws ≡ Some most → 1 ≤ most → most ≤ 65535
+    → ReadsLine version bs (Ok (Turn most))
+turn_read version bs ws most short begins is some few =
+    let lower : nat_le 1 most ≡ true = grind (arith, nat_tests) in
+    let upper : nat_le most 65535 ≡ true = grind (arith, nat_tests) in
+    let line : line_by (codes "turn") ws ≡ Some (Turn most) = line_by-turn ws ∙ turn_of-last ws most is in
+    reads version bs (codes "turn") ws _ short begins (inl (rw (line, lower, upper) refl))
+
+-- A packet whose payload needs no memory
+
+few_in : (version : Version) (n : ℕ) → n ≤ 16 → nat_le n (max_payload version) ≡ true
+few_in One n h = grind (arith, nat_tests)
+few_in Two n h = grind (arith, nat_tests)
+
+pub in_place_read : (version : Version) (flow digits payload : List ℕ) (body : BodyView)
+    → payload_of digits ≡ Some payload → body ≡ unstamped payload → length payload ≤ 16
+    → Ok (Send flow body) ≡ line_or_refusal version (line_sent_by flow (payload_of digits))
+in_place_read version flow digits payload body is plain few =
+    let short : nat_le (length payload) (max_payload version) ≡ true = few_in version (length payload) few in
+    rw (is, plain, short) refl
+
+pub packet_read : (version : Version) (bs : List ℕ) (ws : List (List ℕ)) (flow digits payload : List ℕ)
+    (rest : List (List ℕ)) (body : BodyView)
+    → length bs ≤ 20480 → words_of bs ≡ codes "send" ∷ ws → field name_of ws ≡ Some (flow, rest)
+    → rest ≡ words_of digits → payload_of digits ≡ Some payload → body ≡ unstamped payload → length payload ≤ 16
+    → ReadsLine version bs (Ok (Send flow body))
+packet_read version bs ws flow digits payload rest body short begins named left is plain few =
+    reads version bs (codes "send") ws _ short begins
+    (reads_same version _ _ _ (line_by-send (codes "send") ws refl ∙ send_ends ws flow digits rest named left)
+    (inl (in_place_read version flow digits payload body is plain few)))

@@ -52,7 +52,7 @@ nonempty : (bs : List ℕ) → words_of bs ≢ []
 nonempty bs e = let n = length-slice_split is_space bs in let z : length (words_of bs)
     ≡ 0 = ap length e in absurd (omega arith)
 
--- no word is left exactly where nothing is to be read
+-- no word is left if and only if nothing is to be read
 pub ended_is : (o : Option (Bor (List ℕ))) (ws : List (List ℕ)) (r : Bool) → is_some o ≡ not r
     → words_left (option_copied o) ≡ ws → (IsTrue r → ws ≡ []) × (ws ≡ [] → IsTrue r)
 ended_is None ws true e v = (λ h. sym v, λ h. refl)

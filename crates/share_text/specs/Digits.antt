@@ -11,7 +11,8 @@ pub record DecodedUpTo (w bytes : List ℕ) (place : ℕ) : Type 0 where
   pub pairs : is_pairs w ≡ is_pairs (drop (2 * place) w)
   pub decoded : from_pairs w ≡ take place bytes ++ from_pairs (drop (2 * place) w)
 
--- the digits before a place are decoded, where the greatest of their values is one of a digit; else the word is none
+-- the digits before a place are decoded, if the greatest of their values is one of a digit; otherwise the word is no
+-- payload
 pub record DecodesUpTo (w bytes : List ℕ) (place greatest : ℕ) : Type 0 where
   pub good : greatest < 16 → DecodedUpTo w bytes place
   pub bad : 15 < greatest → payload_of w ≡ None

@@ -2,7 +2,7 @@
 use Rattle.std.specs.Prelude.{List, [], ◌∷◌, ◌++◌, ℕ, codes}
 use Rattle.share_model.specs.text.Lines.{hex}
 
--- the line of a link's bytes: their digits, or a hyphen where there are none
+-- the line of a link's bytes: their digits, or a hyphen if there are none
 abbrev pub digits_or_hyphen : List ℕ → List ℕ
 digits_or_hyphen [] = codes "-"
 digits_or_hyphen (b ∷ bs) = hex (b ∷ bs)

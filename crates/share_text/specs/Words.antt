@@ -18,7 +18,7 @@ abbrev pub words_left : Option (List ℕ) → List (List ℕ)
 words_left None = []
 words_left (Some rest) = words_of rest
 
--- there is a first byte, and it is `0` only where it is the last
+-- there is a first byte, and it is `0` only if it is the last
 abbrev pub begins_number : List ℕ → Bool
 begins_number w = nat_lt 0 (length w) && (not (slice_index w 0 == 48) || length w == 1)
 
@@ -53,7 +53,7 @@ short_line_by w ws =
     else if bytes_eq w (codes "rmtkt") then numbered_of RemoveTicket ws
     else rarer_line_by w ws
 
--- the packet for a flow, where there is a payload
+-- the packet for a flow, if there is a payload
 abbrev pub line_sent_by : List ℕ → Option (List ℕ) → Option Line
 line_sent_by flow None = None
 line_sent_by flow (Some payload) = Some (Send flow (unstamped payload))

@@ -16,7 +16,7 @@ mod writing;
 pub use hex::{print_bytes, spell};
 pub use laws::written_lines_are_read;
 pub use lengths::{Length, read_length};
-pub use reading::{MAX_LINE, read_line};
+pub use reading::{MAX_LINE, read_line, read_packet, read_turn};
 pub use replies::{MAX_ANSWER, push_line};
 pub use spelled::{
     MAX_SEND_LINE, MAX_SHORT_LINE, spelled_command, spelled_length, spelled_send, spelled_turn,

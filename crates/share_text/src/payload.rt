@@ -12,7 +12,7 @@ use std::simd::prelude::*;
 /// How many bytes are decoded at a time.
 const BLOCK: usize = 16;
 
-// The value of a byte as a digit; 255 where it is none. A compiler takes these tests without a branch, which bytes at
+// The value of a byte as a digit; 255 if it is not one. A compiler takes these tests without a branch, which bytes at
 // random would mislead.
 fn digit(byte: u8) -> u8
     ensures { result ≡ value_or_255 byte }
@@ -29,7 +29,7 @@ fn digit(byte: u8) -> u8
 }
 
 // Writes the bytes that a word spells in hexadecimal to the front of a buffer, and answers how many they are.
-// `None` where the word spells none.
+// `None` if the word spells none.
 fn decode(word: &[u8], bytes: &mut [u8]) -> Option<usize>
     requires { length word.now ≤ 2 * length bytes.old }
     ensures payload { MatchOption result (payload_of word.now ≡ None)
@@ -49,7 +49,7 @@ fn decode(word: &[u8], bytes: &mut [u8]) -> Option<usize>
     if greatest > 15 { None } else { Some(count) }
 }
 
-/// Decodes a word as `decode` does, behind the room for a header.
+/// Decodes a word as `decode` does, after the room for a header.
 #[inline(always)]
 pub fn decode_behind(word: &[u8], bytes: &mut [u8]) -> Option<usize>
     requires { 2 * HEADER_ROOM + length word.now ≤ 2 * length bytes.old }

@@ -1,12 +1,13 @@
 //! Lines of a script, read from their bytes.
 ghost use Rattle.std.specs.Prelude.{◌≡◌, ◌≤◌, ◌*◌, ◌∷◌, ◌&&◌, ℕ, List, codes, length, nat_le, option_map, IfOk, IfErr};
-ghost use Rattle.std.specs.Prelude.{IfSome, if◌then◌else◌};
+ghost use Rattle.std.specs.Prelude.{IfSome, MatchOption, None, Some, Ok, if◌then◌else◌};
+ghost use Rattle.share_base.specs.Body.{unstamped};
 ghost use Rattle.share_base.specs.declared.refusal.Refusal.TheVariants.{Syntax};
 ghost use Rattle.share_base.specs.declared.version.Version.{Version};
 ghost use Rattle.share_base.specs.declared.command.Command.{Command};
 ghost use Rattle.share_base.specs.declared.command.Command.TheVariants.{MakeCurrency, RemoveCurrency, RemoveTicket};
 ghost use Rattle.share_base.specs.declared.command.Command.TheVariants.{Unfund, CloseFlow, Hold, Resume};
-ghost use Rattle.share_model.specs.declared.line.Line.TheVariants.{Change};
+ghost use Rattle.share_model.specs.declared.line.Line.TheVariants.{Change, Send as SendLine, Turn as TurnLine};
 ghost use Rattle.share_model.specs.text.Lines.{ReadsLine, IsReading, IsUnread, is_in_range, is_pairs, payload_of};
 ghost use Rattle.share_model.specs.text.Lines.{named_of, numbered_of, mktkt_of, amend_of, fund_of, funding_of, open_of};
 ghost use Rattle.share_model.specs.text.Lines.{send_of, turn_of, torn_of, report_of, version_of, audit_of};
@@ -25,6 +26,9 @@ use std::alloc::{AllocError, Global};
 /// The longest line, in bytes before its line feed.
 pub const MAX_LINE: usize = 20480;
 
+/// The longest line of a packet whose payload needs no memory: `send`, a name of 16 bytes, 32 digits and two spaces.
+const MAX_SHORT_PACKET: usize = 54;
+
 /// The line that these bytes, without a line feed, spell on a link of this version. `Syntax` where they spell none,
 /// `Range` where frames of the version do not carry the payload of a packet, which has more than 1490 or 9000 bytes, or
 /// the number of a turn is not 1 to 65535, `NoMemory` where the copy of a payload found none.
@@ -34,6 +38,46 @@ pub fn read_line(alloc: Global, version: Version, bytes: &[u8]) -> Result<Line, 
     ensures refused { IfErr result (λ refusal. IsUnread version bytes.now refusal) }
 {
     read_bytes(alloc, version, bytes)
+}
+
+/// How many bytes a turn offers at most, if these bytes spell a turn in range. `None` says nothing of them: `read_line`
+/// reads any line. A number stays in a register, while a `Line` is copied on its way.
+#[inline(always)]
+pub fn read_turn(bytes: &[u8]) -> Option<u64>
+    ensures reads { IfSome result (λ most. (version : Version) → ReadsLine version bytes.now (Ok (TurnLine most))) }
+    ensures spelled { IfSome result (λ most. (version : Version) → IsReading version bytes.now (TurnLine most)) }
+{
+    if bytes.len() > MAX_LINE {
+        return None;
+    }
+    let most = Words::of(after_turn(bytes)?).last_number()?;
+    if 1 <= most && most <= 65535 {
+        Some(most)
+    } else {
+        None
+    }
+}
+
+/// A packet for the flow of this name, if these bytes spell one whose payload needs no memory. `None` says nothing of
+/// them, as that of `read_turn` does. The packet is made where it is answered, while a `Line` is copied on its way.
+#[inline(always)]
+pub fn read_packet(alloc: Global, bytes: &[u8]) -> Option<(Name, Body)>
+    ensures reads { IfSome result
+        (λ packet. (version : Version) → ReadsLine version bytes.now (Ok (SendLine packet.0 packet.1))) }
+    ensures spelled { IfSome result
+        (λ packet. (version : Version) → IsReading version bytes.now (SendLine packet.0 packet.1)) }
+{
+    if bytes.len() > MAX_SHORT_PACKET {
+        return None;
+    }
+    let mut words = Words::of(after_send(bytes)?);
+    let flow = words.name()?;
+    let digits = words.rest()?;
+    if digits.len() > 2 * MAX_IN_PLACE {
+        return None;
+    }
+    let body = body_in_place(alloc, digits)?;
+    Some((flow, body))
 }
 
 fn read_bytes(alloc: Global, version: Version, bytes: &[u8]) -> Result<Line, Refusal>
@@ -67,7 +111,7 @@ fn is_word(word: &[u8], keyword: &[u8]) -> bool
     true
 }
 
-// Packets and turns come most, and are told soonest by the first bytes of their lines.
+// Packets and turns come most, and are recognized soonest by the first bytes of their lines.
 fn after_send(line: &[u8]) -> Option<&[u8]>
     ensures { IfSome result (λ rest. words_of line.now ≡ codes "send" ∷ words_of rest.now) }
 {
@@ -413,17 +457,29 @@ fn sent_in_place(alloc: Global, flow: Name, digits: &[u8]) -> Result<Line, Refus
     requires { length digits.now ≤ 2 * MAX_IN_PLACE }
     ensures { (version : Version) → result ≡ line_or_refusal version (line_sent_by flow (payload_of digits.now)) }
 {
-    let mut bytes = [0; HEADER_ROOM + MAX_IN_PLACE];
-    match decode_behind(digits, &mut bytes) {
+    match body_in_place(alloc, digits) {
         None => Err(Refusal::Syntax),
-        Some(count) => Ok(Line::Send {
-            flow,
-            body: Body::from_array(alloc, bytes, count),
-        }),
+        Some(body) => Ok(Line::Send { flow, body }),
     }
 }
 
-// Why digits are not read: `Syntax` where they spell no payload.
+// The payload that these digits spell, which needs no memory.
+#[inline(always)]
+fn body_in_place(alloc: Global, digits: &[u8]) -> Option<Body>
+    requires { length digits.now ≤ 2 * MAX_IN_PLACE }
+    ensures { MatchOption result (payload_of digits.now ≡ None) (λ body.
+        (payload_of digits.now ≡ Some body.payload)
+        × (body ≡ unstamped body.payload)
+        × (length body.payload ≤ MAX_IN_PLACE)) }
+{
+    let mut bytes = [0; HEADER_ROOM + MAX_IN_PLACE];
+    match decode_behind(digits, &mut bytes) {
+        None => None,
+        Some(count) => Some(Body::from_array(alloc, bytes, count)),
+    }
+}
+
+// Why digits are not read: `Syntax` if they spell no payload.
 fn unread(digits: &[u8], otherwise: Refusal) -> Refusal
     ensures { result ≡ (if nat_le 2 (length digits.now) && is_pairs digits.now then otherwise else Syntax) }
 {
@@ -434,7 +490,7 @@ fn unread(digits: &[u8], otherwise: Refusal) -> Refusal
     }
 }
 
-// So many zero bytes. An error where memory for them was refused.
+// That many zero bytes. An error if memory for them was refused.
 fn zeros(alloc: Global, count: usize) -> Result<Vec<u8>, AllocError>
     ensures { IfOk result (λ bytes. length bytes.items ≡ count) }
 {

@@ -20,7 +20,8 @@ const PIECE: usize = 512;
 /// How many bytes the spelling of a command has at most: that of a flow that is opened.
 pub(crate) const MAX_COMMAND: usize = 4 + 1 + MAX_NAME + 2 * (1 + MAX_DIGITS);
 
-/// Adds the spelling of a line to an empty text. What the types of its fields say is enough for it to be a line.
+/// Adds the spelling of a line to an empty text. The bounds that the types of its fields give are enough for it to be a
+/// line.
 pub fn push_spelled(text: &mut ShortText<ROOM>, line: &Line)
     requires { text.old ≡ [] }
     ensures bytes { text.new ≡ spelling_of line.now }

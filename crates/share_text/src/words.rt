@@ -50,7 +50,7 @@ impl<'a> Words<'a> {
         }
     }
 
-    /// Reads a name. Where the next word is none, the words are not to be read on.
+    /// Reads a name. If the next word is not one, the words are not to be read on.
     pub fn name(&mut self) -> Option<Name>
         ensures { MatchOption result (field name_of self.old ≡ None)
             (λ name. field name_of self.old ≡ Some (name, self.new)) }
@@ -61,7 +61,7 @@ impl<'a> Words<'a> {
         }
     }
 
-    /// Reads a number. Where the next word is none, the words are not to be read on.
+    /// Reads a number. If the next word is not one, the words are not to be read on.
     pub fn number(&mut self) -> Option<u64>
         ensures { MatchOption result (field number_of self.old ≡ None)
             (λ n. field number_of self.old ≡ Some (n, self.new)) }
@@ -72,7 +72,7 @@ impl<'a> Words<'a> {
         }
     }
 
-    /// Reads a number, the last word. Where what is left is none, the words are not to be read on.
+    /// Reads a number, the last word. If the rest is not one, the words are not to be read on.
     pub fn last_number(&self) -> Option<u64>
         ensures { result ≡ last number_of self.now }
     {
@@ -89,7 +89,7 @@ impl<'a> Words<'a> {
         self.rest
     }
 
-    /// Reads the word `cur` or `flow`. Where the next word is neither, the words are not to be read on.
+    /// Reads the word `cur` or `flow`. If the next word is neither, the words are not to be read on.
     pub fn kind(&mut self) -> Option<HolderKind>
         ensures { MatchOption result (field kind_of self.old ≡ None)
             (λ kind. field kind_of self.old ≡ Some (kind, self.new)) }
@@ -147,14 +147,14 @@ fn number_in(word: &[u8]) -> Option<u64>
     Some(value)
 }
 
-// The number with one more digit, where it is below 2^64.
+// The number with one more digit, if it is below 2^64.
 fn with_digit(value: u64, digit: u64) -> Option<u64>
     ensures { SomeIff result (value * 10 + digit < 2 ^ 64) (value * 10 + digit) }
 {
     value.checked_mul(10)?.checked_add(digit)
 }
 
-// There is a first byte, and it is `0` only where it is the last.
+// There is a first byte, and it is `0` only if it is the last.
 fn begins_number(word: &[u8]) -> bool
     ensures { result ≡ begins_number word.now }
 {

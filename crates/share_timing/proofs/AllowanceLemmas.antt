@@ -1,11 +1,11 @@
--- What the calls of an allowance keep.
+-- The invariant of the calls of an allowance.
 use Rattle.std.specs.Prelude.{◌≡◌, ◌≤◌, ◌+◌, ◌*◌, ℕ}
 use Rattle.std.proofs.Common.{ap, arith, refl}
 use Rattle.std.proofs.lemmas.Bool.{ltb-true}
 use Rattle.share_timing.specs.Allowance.{AllowanceView, most_room}
 use Rattle.share_timing.specs.Allowance.{Keeps, began, passed, sent}
 
--- what was sent and what may still be sent is the allowance of the time
+-- the bytes that were sent and those that may still be sent are the allowance of the time
 record IsBounded (rate bytes time : ℕ) (a : AllowanceView) : Type 0 where
   rate_is : a.rate ≡ rate
   bound : bytes * 1000000000 + a.room ≤ rate * time + most_room rate

@@ -78,7 +78,7 @@ fn most(rate: u64) -> u128
     DEBT * BILLION + u128::from(rate) * SAVED
 }
 
-/// What holds of each allowance from the beginning on: the bytes that were sent are at most those of the time that
+/// Laws of each allowance from the beginning on: the bytes that were sent are at most those of the time that
 /// passed, of the 20 milliseconds that are saved up, and of one frame of the longest kind.
 pub fn rates_are_kept()
     ensures { (rate bytes nanoseconds : ℕ) (a : AllowanceView) → Keeps rate bytes nanoseconds a

@@ -1,4 +1,5 @@
-//! What a gateway knows of time: a rate that is kept, the pauses between dials, and how often a message is printed.
+//! The parts of a gateway that know of time: a rate that is kept, the pauses between dials, and how often a message
+//! is printed.
 //! The caller reads the clock.
 #![tactic(auto)]
 

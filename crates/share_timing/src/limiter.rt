@@ -7,7 +7,7 @@ use std::marker::Model;
 /// How many messages of a kind are printed in a second.
 const MOST: u32 = 10;
 
-/// What becomes of a message.
+/// The outcome of a message.
 #[derive(Clone, Copy, Debug, PartialEq, Eq)]
 pub enum Printing {
     /// It is printed.

@@ -45,7 +45,7 @@ impl Redial {
         pause
     }
 
-    /// A connection stood for so many milliseconds.
+    /// A connection stood for that many milliseconds.
     pub fn stood(&mut self, milliseconds: u64)
         ensures { self.new ≡ pause_after milliseconds self.old }
     {

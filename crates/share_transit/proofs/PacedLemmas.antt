@@ -12,7 +12,7 @@ use Rattle.share_model.specs.link.Calls.{is_spent}
 use Rattle.share_model.specs.link.Turns.{Sending, frame_of, sending}
 use Rattle.share_model.specs.text.Audit.{event_line}
 use Rattle.share_model.specs.text.Lines.{spelling_of}
-use Rattle.share_model.proofs.lemmas.link.FrameLaws.{length-frame, header_length-some}
+use Rattle.share_model.proofs.lemmas.link.FrameLemmas.{length-frame, header_length-some}
 use Rattle.share_gateway.specs.Outbox.{OutboxView, passed, with_frame, ready_of, send_more, begun_again}
 use Rattle.share_gateway.specs.OutboxHistory.{History, began, put, allow, send, again as again_sent, AreParts}
 use Rattle.share_book.specs.Audited.{Audited, after_event, lacks_text}

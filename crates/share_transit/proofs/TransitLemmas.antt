@@ -24,7 +24,7 @@ length-concat-append xs ys = ap (λ t. length t) (concat-append xs ys) ∙ lengt
 
 -- ---- What the wire takes is of the first frames
 
--- an outbox of all these frames is one of the first of them, with the others behind
+-- an outbox of all these frames is one of the first of them, with the others after them
 pub record HasOthers (others : List (List ℕ)) (all part : OutboxView) : Type 0 where
   pub is : all ≡ record { frames = part.frames ++ others; out = part.out; allowed = part.allowed }
   pub allowed_are : part.allowed ≡ length (concat part.frames)

@@ -1,4 +1,4 @@
--- What a turn does to the frames that are due.
+-- The effect of a turn on the frames that are due.
 use Rattle.std.proofs.Common.{◌≡◌, ◌<◌, ℕ, ◌-◌, Bool, true, false, nat_lt, if◌then◌else◌}
 use Rattle.std.proofs.Common.{List, [], ◌∷◌, ◌++◌, length, arith, refl, sym, subst}
 use Rattle.std.proofs.lemmas.Bool.{ltb-true, ltb-false}

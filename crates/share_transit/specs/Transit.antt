@@ -1,5 +1,5 @@
--- What a contract sees of the frames on their way to the wire and of the text on its way to the disk, and what the
--- calls do. Text is counted in bytes over all books.
+-- The view of the frames on their way to the wire and of the text on its way to the disk in contracts. The effects of
+-- its calls. Text is counted in bytes over all books.
 use Rattle.std.specs.Prelude.{◌≡◌, ◌≤◌, ◌<◌, ℕ, ◌+◌, ◌-◌, ◌^◌, min, max, nat_le, if◌then◌else◌}
 use Rattle.std.specs.Prelude.{List, [], ◌∷◌, ◌++◌, length, map, take}
 use Rattle.std.specs.List.{concat}
@@ -88,6 +88,6 @@ settled t = record t {
   due = still_due t.written t.due;
 }
 
--- the disk has written so many bytes, as far as they were handed to it, and no fewer than before
+-- the disk has written that many bytes, as far as they were handed to it, and no fewer than before
 abbrev pub text_written : ℕ → TransitView → TransitView
 text_written total t = settled (record t { written = max t.written (min total t.handed) })

@@ -1,4 +1,4 @@
-//! What goes from a book to the disk and to the wire: text before wire. A frame may go to the wire only if the disk has
+//! The way from a book to the disk and to the wire: text before wire. A frame may go to the wire only if the disk has
 //! written the text of its turn.
 #![tactic(auto)]
 

@@ -139,7 +139,7 @@ impl Transit {
         self.outbox.frame()
     }
 
-    /// Says that the wire took so many bytes, the first of those that are ready.
+    /// Marks that many bytes as taken by the wire, the first of those that are ready.
     pub fn sent(&mut self, count: usize)
         requires { count ≤ length (ready_of self.old.outbox) }
         ensures { self.new ≡ record self.old { outbox = send_more count self.old.outbox } }

@@ -1,4 +1,4 @@
--- What the wire takes of the frames on their way to it.
+-- The bytes that the wire takes of the frames on their way to it.
 use Rattle.std.specs.Prelude.{◌≡◌, ◌≤◌, ℕ, length}
 use Rattle.share_gateway.specs.Outbox.{begun_again, ready_frame, ready_of, send_more}
 use Rattle.share_sockets.specs.declared.progress.Progress.{Progress}
@@ -17,7 +17,7 @@ pub data WireTakes : TransitView → TransitView → Type 0 where
 abbrev pub frame_out : TransitView → TransitView
 frame_out t = record t { outbox = send_more (length (ready_frame t.outbox)) t.outbox }
 
--- what came of a datagram: if it was sent, its frame is out, and otherwise nothing changed
+-- the outcome of a datagram: if it was sent, its frame is out, and otherwise nothing changed
 abbrev pub SendsOne : TransitView → Progress → TransitView → Type 0
 SendsOne before (Moved n) after = after ≡ frame_out before
 SendsOne before Again after = after ≡ before
@@ -29,7 +29,7 @@ pub data SendsFrames : TransitView → TransitView → Type 0 where
   no_frame : (t : TransitView) → SendsFrames t t
   frame : (s t : TransitView) → SendsFrames s t → SendsFrames s (frame_out t)
 
--- on a new connection the outbox begins again, and a dial that failed changes nothing; else the wire took bytes
+-- on a new connection the outbox begins again, and a dial that failed changes nothing; otherwise the wire took bytes
 abbrev pub UplinkWorks : TransitView → Work → TransitView → Type 0
 UplinkWorks before Rests after = WireTakes before after
 UplinkWorks before Busy after = WireTakes before after

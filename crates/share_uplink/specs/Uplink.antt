@@ -1,4 +1,4 @@
--- What a contract sees of an uplink, and what its calls do to that. Moments are in nanoseconds.
+-- The view of an uplink in contracts, and the effects of its calls. Moments are in nanoseconds.
 use Rattle.std.specs.Prelude.{◌≡◌, ℕ, ◌+◌, ◌-◌, ◌*◌, ◌/◌, ◌^◌, ◌==◌, nat_lt, min, length, Option, Some, None}
 use Rattle.std.specs.Prelude.{Bool, true, false, not, ◌&&◌, ◌||◌, if◌then◌else◌}
 use Rattle.std.specs.IoError.{error_kind}
@@ -16,7 +16,7 @@ use Rattle.share_uplink.specs.declared.state.Work.TheVariants.{Rests, Busy, Conn
 
 -- the address and the size that is asked for its send buffer; whether it is connected, and if not, whether a dial
 -- began; since when either is so, or else when it is dialled; the pause before the next dial but one, in milliseconds;
--- what its socket may be ready for; how many bytes the last connection was given, and all of them; how many may be lost
+-- the readiness of its socket; how many bytes the last connection was given, and all of them; how many may be lost
 -- at the near end, by the last loss and by all; and what kind of fault the last loss or failed dial had
 pub record UplinkView : Type 0 where
   pub address : SocketAddr
@@ -43,7 +43,7 @@ kind_of (Some fault) = Some (error_kind fault)
 
 -- ---- Time
 
--- the moment so many milliseconds later, or this one if the clock ends before
+-- the moment that many milliseconds later, or this one if the clock ends before
 abbrev pub later : ℕ → ℕ → ℕ
 later now milliseconds =
     if nat_lt (now + milliseconds * 1_000_000) (2 ^ 63 * 1_000_000_000) then now + milliseconds * 1_000_000 else now
@@ -55,7 +55,7 @@ time_left now u = if u.dials then 5_000_000_000 - (now - u.since) else u.since -
 abbrev pub is_due : ℕ → UplinkView → Bool
 is_due now u = time_left now u == 0
 
--- the pause after a connection that stood for so many whole seconds
+-- the pause after a connection that stood for that many whole seconds
 abbrev pub pause_when_lost : ℕ → UplinkView → ℕ
 pause_when_lost now u = pause_after (capped (((now - u.since) / 1_000_000_000) * 1000)) u.pause
 
@@ -140,8 +140,8 @@ pub record Gives (u : UplinkView) (n : ℕ) (v : UplinkView) (after : TransitVie
   pub writes : v.writes ≡ true → u.writes ≡ true
   pub busy : has_work v.reads v.writes after ≡ is_busy
 
--- What the states allow. One that is connected was given bytes, or was given bytes and lost. One that is not is
--- connected or was not reached once a dial ends, and nothing changes before.
+-- The work that the states allow. One that is connected was given bytes, or was given bytes and lost. One that is
+-- not is connected or was not reached once a dial ends, and nothing changes before.
 abbrev pub Works : UplinkState → Bool → ℕ → UplinkView → ℕ → Work → UplinkView → TransitView → Type 0
 Works Up ends now u n Rests v after = Gives u n v after false
 Works Up ends now u n Busy v after = Gives u n v after true
@@ -166,8 +166,8 @@ UplinkCounts u before now work v after =
 
 -- ---- Ticks
 
--- What time does: nothing to one that is connected, and nothing before it is due. Then a dial begins or fails, and one
--- that began is given up.
+-- The effect of time: nothing to one that is connected, and nothing before it is due. Then a dial begins or fails,
+-- and one that began is given up.
 abbrev pub Ticks : UplinkState → Bool → Bool → ℕ → UplinkView → Work → UplinkView → Type 0
 Ticks Up due dials now u Rests v = v ≡ u
 Ticks Up due dials now u Busy v = ⊥

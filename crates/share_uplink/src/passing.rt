@@ -1,4 +1,4 @@
-//! What goes over the stream of an uplink.
+//! The bytes that go over the stream of an uplink.
 ghost use Rattle.std.specs.Prelude.{◌≡◌, true, false, Ok, IfOk};
 ghost use Rattle.share_uplink.specs.Passing.{WireTakes};
 ghost use Rattle.share_uplink.specs.Uplink.{has_work};
@@ -16,7 +16,7 @@ pub(crate) const CALLS: u32 = 64;
 /// How many bytes are read in one call.
 pub(crate) const PIECE: usize = 4096;
 
-/// What a stream may be ready for.
+/// The readiness of a stream.
 #[derive(Clone, Copy, Debug)]
 pub(crate) struct Ready {
     // Whether it may have bytes, and whether it may take some.

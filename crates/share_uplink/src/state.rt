@@ -80,7 +80,7 @@ pub enum UplinkState {
     Dialling,
 }
 
-/// What became of an uplink.
+/// The outcome of an uplink's turn.
 #[derive(Clone, Copy, Debug, PartialEq, Eq)]
 pub enum Work {
     /// Nothing is left to do before its socket is ready again, or more may go on the wire.

@@ -25,7 +25,7 @@ use std::time::{Duration, Instant};
 /// After how many seconds a dial is given up.
 const DIAL_SECONDS: u64 = 5;
 
-/// What time asks of an uplink.
+/// The action of an uplink that is due.
 #[derive(Clone, Copy, Debug, PartialEq, Eq)]
 enum Due {
     Nothing,
@@ -42,7 +42,7 @@ pub struct Uplink {
     buffer: u64,
     state: State,
     redial: Redial,
-    // What the socket may be ready for.
+    // The readiness of the socket.
     ready: Ready,
     // How many bytes the last connection was given, and all of them.
     given: u64,
@@ -104,8 +104,8 @@ const NOT_READY: Ready = Ready {
 };
 
 impl Uplink {
-    /// An uplink that is to be dialled at once. Its socket is to hold so many bytes that were written and that the far
-    /// end has not acknowledged, or that have not left if it sends datagrams. Linux doubles that.
+    /// An uplink that is to be dialled at once. Its socket is to hold that many written bytes that the far end has not
+    /// acknowledged. If it sends datagrams, these are bytes that have not left. Linux doubles that.
     pub fn new(address: SocketAddr, transport: Transport, buffer: u64, now: Instant) -> Uplink
         ensures { result ≡ new_uplink address buffer (instant_nanos now) }
     {
@@ -371,7 +371,7 @@ fn at_risk(given: u64, buffer: u64) -> u64
     given.min(buffer.saturating_mul(2).saturating_add(65536))
 }
 
-// The moment so many milliseconds later, or this one if the clock ends before.
+// The moment that many milliseconds later, or this one if the clock ends before.
 fn later(now: Instant, milliseconds: u64) -> Instant
     ensures { instant_nanos result ≡ later_by (instant_nanos now) milliseconds }
 {

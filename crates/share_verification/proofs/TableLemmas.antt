@@ -86,7 +86,8 @@ table_fault text lines (Line number Header) is wrong = absurd wrong.is.1
 table_fault text lines (Line number (Column column)) is wrong = (lines, is, wrong)
 table_fault text lines (Line number Order) is wrong = (lines, is, wrong)
 
-pub by_header : {A : Type 0} (text lines : List ℕ) (rows : List Row) (result : Result A NotRows) → text ≡ header_text ++ lines
+pub by_header : {A : Type 0} (text lines : List ℕ) (rows : List Row) (result : Result A NotRows)
+    → text ≡ header_text ++ lines
     → MatchResult result (λ _. AreLines lines rows) (IsLineFault lines)
     → MatchResult result (λ _. IsTable text rows) (IsTableFault text)
 by_header text lines rows (Ok done) is read = table_of text lines rows is read

@@ -8,14 +8,14 @@ use Rattle.share_verification.specs.declared.given.GivenFault.TheVariants.{Wrong
 use Rattle.share_verification.specs.declared.given.WrongGiven.{WrongGiven}
 use Rattle.share_verification.specs.declared.given.WrongGiven.TheVariants.{Twice, Bad}
 
--- what is wrong with a book of this number after those
+-- the fault of a book of this number after those
 abbrev pub wrong_after : List Row → List ℕ → ℕ → Option WrongGiven
 wrong_after rows before number =
     if list_any (λ n. n == number) before then Some Twice
     else if list_any (is_bad_book number) rows then Some Bad
     else None
 
--- what is wrong with the book at an index
+-- the fault of the book at an index
 abbrev pub wrong_at : List Row → List ℕ → ℕ → Option WrongGiven
 wrong_at rows given index = wrong_after rows (take index given) (slice_index given index)
 

@@ -1,5 +1,6 @@
 -- The text of `books.csv`, as the rows that it has.
-use Rattle.std.specs.Prelude.{◌≡◌, ◌≢◌, ◌⊎◌, ◌+◌, ◌-◌, ℕ, Bool, true, false, Option, None, Some, List, [], ◌∷◌, ◌++◌, codes, flat_map, length}
+use Rattle.std.specs.Prelude.{◌≡◌, ◌≢◌, ◌⊎◌, ◌+◌, ◌-◌, ℕ, Bool, true, false, Option, None, Some, List, [], ◌∷◌, ◌++◌}
+use Rattle.std.specs.Prelude.{codes, flat_map, length}
 use Rattle.std.specs.Prelude.{nat_lt, slice_get, ⊤}
 use Rattle.std.specs.List.{All}
 use Rattle.share_catalog.specs.Pieces.{pieces_of}
@@ -49,7 +50,7 @@ IsTable text rows =
 
 -- Wrong lines
 
--- what is wrong with the line after these rows
+-- the fault of the line after these rows
 abbrev pub IsWrongLine : List Row → List ℕ → WrongLine → Type 0
 IsWrongLine rows line Header = ⊥
 IsWrongLine rows line (Column column) =

@@ -5,7 +5,7 @@ ghost use Rattle.share_verification.specs.Figures.{row_of, mismatch_in};
 
 use share_catalog::{Digest, Mismatch, Row, compare};
 
-/// What the text of a book comes to.
+/// The outcome of the text of a book.
 #[derive(Clone, Copy, Debug)]
 pub struct BookFigures {
     /// The number of the book.

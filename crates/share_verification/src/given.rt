@@ -6,7 +6,7 @@ ghost use Rattle.share_verification.specs.Given.{wrong_at, IsFirstFault};
 
 use share_catalog::{Closing, Row, first_missing};
 
-/// What is wrong with a book that is given.
+/// The fault of a book that is given.
 #[derive(Clone, Copy, Debug, PartialEq, Eq)]
 pub enum WrongGiven {
     /// It is given before.
@@ -24,9 +24,9 @@ pub enum GivenFault {
     Missing { book: u64 },
 }
 
-/// The first fault of the books of these numbers, beside the rows: the first of them that is wrong; or else the least
-/// number from the first to the last row for which no book is given, and no row says that its text is no run. `None` if
-/// there is no fault.
+/// The first fault of the books of these numbers, beside the rows: the first of them that is wrong. Otherwise it is the
+/// least number from the first to the last row for which no book is given. Rows whose text is not a run are passed
+/// over. `None` if there is no fault.
 pub fn first_fault(rows: &[Row], given: &[u64]) -> Option<GivenFault>
     ensures { IsFirstFault rows.now given.now result }
 {
@@ -41,7 +41,7 @@ pub fn first_fault(rows: &[Row], given: &[u64]) -> Option<GivenFault>
     }
 }
 
-// What is wrong with the book at an index, if something is.
+// The fault of the book at an index, if there is one.
 fn wrong_at(rows: &[Row], given: &[u64], index: usize) -> Option<WrongGiven>
     requires { index < length given.now }
     ensures { result ≡ wrong_at rows.now given.now index }

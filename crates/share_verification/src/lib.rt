@@ -1,4 +1,4 @@
-//! What a bill checks of given books beside the rows of `books.csv`. The caller reads the files and runs the texts.
+//! The checks of a bill on given books beside the rows of `books.csv`. The caller reads the files and runs the texts.
 #![tactic(auto)]
 
 mod figures;

@@ -8,7 +8,7 @@ use crate::lines::{has_line, split_line};
 use share_catalog::{Column, Row, header_line, read_row};
 use std::alloc::Global;
 
-/// What is wrong with a line of `books.csv`.
+/// The fault of a line of `books.csv`.
 #[derive(Clone, Copy, Debug, PartialEq, Eq)]
 pub enum WrongLine {
     /// It is the first line, and has not the names of the columns.

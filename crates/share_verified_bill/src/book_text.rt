@@ -52,10 +52,10 @@ impl<'a, F: Read> TellingReader for DigestedFile<'a, F> {
     }
 }
 
-/// What the text of a book comes to.
+/// The outcome of the text of a book.
 #[derive(Drop)]
 pub(crate) struct RunBook {
-    /// What each tenant sent.
+    /// The traffic of each tenant.
     pub(crate) rows: Vec<TenantBill>,
     /// The number of the last line if it has no line feed.
     pub(crate) cut: Option<u64>,
@@ -80,7 +80,7 @@ pub(crate) fn run_file(alloc: Global, shelf: PlainShelf, file: File) -> Result<R
     }
 }
 
-// What a run of a text with this digest comes to.
+// The outcome of a run of a text with this digest.
 fn run_book<S: Rates + Drop>(
     alloc: Global,
     run: TextRun<S>,

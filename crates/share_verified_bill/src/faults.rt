@@ -1,4 +1,4 @@
-//! What standard error says if there is no bill.
+//! The text on standard error if there is no bill.
 
 use share_bill::NotBilled;
 use share_billing::Shown;
@@ -35,7 +35,7 @@ pub(crate) enum BookFault {
     Figure(Mismatch),
 }
 
-/// What standard error says of a file: its path, the line if there is one, and the reason.
+/// The line on standard error for a file: its path, the line if there is one, and the reason.
 #[derive(Clone, Copy, Debug)]
 pub(crate) struct FaultLine<'a> {
     pub(crate) path: &'a str,
@@ -86,7 +86,7 @@ fn print_row<W: fmt::Write>(
     }
 }
 
-// What a row has in a column.
+// The value of a row in a column.
 fn column_name(column: Column) -> &'static str {
     match column {
         Column::Book => "book",
@@ -121,7 +121,7 @@ fn reason_of(fault: BookFault) -> &'static str {
     }
 }
 
-/// What standard error says of a file that ends in a line without its line feed.
+/// The line on standard error for a file that ends in a line without its line feed.
 #[derive(Clone, Copy, Debug)]
 pub(crate) struct CutLine<'a> {
     pub(crate) path: &'a str,
@@ -139,7 +139,7 @@ impl<'a> Display for CutLine<'a> {
     }
 }
 
-/// What standard error says of a row whose text is no run.
+/// The line on standard error for a row whose text is not a run.
 #[derive(Clone, Copy, Debug)]
 pub(crate) struct BadLine<'a> {
     pub(crate) path: &'a str,

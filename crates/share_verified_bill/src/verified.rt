@@ -82,8 +82,8 @@ fn print_beside<R: Files<File = File> + Print + Eprint>(
 }
 
 /// Prints the bill of these books, each under its own tariffs, summed by tenant. Each book from the first to the last
-/// row has to be given once, but for those whose text is no run, and has to be as its row says. Otherwise nothing is
-/// printed, and standard error says why.
+/// row has to be given once, and has to be as its row says. Those whose text is not a run are left out. Otherwise
+/// nothing is printed, and standard error says why.
 pub fn print_verified_bill<R: Files<File = File> + Print + Eprint>(
     rt: &R,
     alloc: Global,

@@ -6,7 +6,7 @@ use Rattle.std.specs.List.{ends_with}
 abbrev pub is_ended : List ℕ → Bool
 is_ended bytes = ends_with nat_eq bytes (codes "\n\r\n") || ends_with nat_eq bytes (codes "\n\n")
 
--- no byte is taken any more
+-- no more bytes are taken
 abbrev pub is_over : List ℕ → Bool
 is_over head = nat_le 8192 (length head) || is_ended head
 

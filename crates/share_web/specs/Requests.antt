@@ -1,4 +1,4 @@
--- What the head of a request asks for.
+-- The request in the head of a request.
 use Rattle.std.specs.Prelude.{◌≡◌, ◌<◌, ◌⊎◌, ℕ, List, Option, None, Some, Bool, false, true, not, ◌&&◌, ◌||◌, ◌==◌}
 use Rattle.std.specs.Prelude.{◌-◌, codes, drop, length, map, nat_eq, nat_le, position, slice_index, take, if◌then◌else◌}
 use Rattle.std.specs.Char.{is_ascii_digit}
@@ -25,7 +25,7 @@ refused r = record { want = want.Refusal r; has_body = true }
 abbrev pub exposition_by : Fields → Exposition
 exposition_by fields = if wants_open_metrics fields then OpenMetrics else Plain
 
--- what is at a target
+-- the content at a target
 abbrev pub resource_by : List ℕ → Fields → Want
 resource_by target fields =
     if bytes_eq target (codes "/") then want.Resource resource.Page
@@ -52,11 +52,11 @@ request_by address method target fields = record {
   has_body = not (bytes_eq method (codes "HEAD"));
 }
 
--- what a head asks of a gateway that listens at this address
+-- the request of a head to a gateway that listens at this address
 abbrev pub request_of : List ℕ → RequestHead → Request
 request_of address h = request_by address h.method h.target (map name_and_value h.fields)
 
--- what a head of the grammar asks for; a head with more than 64 fields may be refused
+-- the request in a head of the grammar; a head with more than 64 fields may be refused
 abbrev pub AsksBy : List ℕ → RequestHead → Request → Type 0
 AsksBy address h asked = (asked ≡ request_of address h) ⊎ ((64 < length h.fields) × (asked ≡ refused why.HeadTooLarge))
 
@@ -97,6 +97,6 @@ unread head =
     else if has_other_version head then why.VersionNotSupported
     else why.BadRequest
 
--- what is asked by a head that is not read; one that goes on with a fault after 64 fields may be refused for these
+-- the request in a head that is not read; one that goes on with a fault after 64 fields may be refused for these
 abbrev pub IsUnread : List ℕ → Request → Type 0
 IsUnread head asked = (asked ≡ refused (unread head)) ⊎ (RequestExceeds 64 head × (asked ≡ refused why.HeadTooLarge))

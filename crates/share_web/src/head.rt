@@ -58,7 +58,7 @@ impl Head {
         }
     }
 
-    /// Whether no byte is taken any more.
+    /// Whether no more bytes are taken.
     pub fn is_over(&self) -> bool
         ensures { result ≡ is_over self.now }
     {

@@ -1,4 +1,4 @@
-//! What holds of every head. The function here does nothing: its contract is a law, which is proved with it.
+//! Laws of every head. The function here does nothing: its contract is a law, which is proved with it.
 ghost use Rattle.std.specs.Prelude.{◌≡◌, ◌++◌, ℕ, List};
 ghost use Rattle.share_web.specs.Heads.{taken};
 

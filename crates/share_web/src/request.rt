@@ -53,7 +53,7 @@ fn refused(why: Refusal) -> Request
     }
 }
 
-// The want of a request whose head was read.
+// The request whose head was read.
 fn request_in(request: &httparse::Request<'_, '_>, address: &[u8]) -> Request
     ensures { (method target : List ℕ) → option_copied request.now.method ≡ Some method
         → option_copied request.now.path ≡ Some target

@@ -1,4 +1,4 @@
--- What a contract sees of a connection, and what its calls do to that.
+-- The view of a connection in contracts, and the effects of its calls.
 use Rattle.std.specs.Prelude.{◌≡◌, ◌-◌, ◌⊎◌, ℕ, Bool, true, false, ◌&&◌, ◌||◌, List, [], drop}
 use Rattle.share_web.specs.Heads.{is_over, taken}
 use Rattle.share_web_clients.specs.declared.client.Stage.{Stage}

@@ -1,4 +1,4 @@
-//! What the words of the command line ask for.
+//! The requests in the words of the command line.
 
 use share_billing::Form;
 
@@ -34,7 +34,7 @@ pub struct ServeOrders<'a> {
     pub clerks: u64,
     /// Whether the end of standard input ends the run.
     pub is_until_eof: bool,
-    /// Whether standard error tells what happens.
+    /// Whether standard error prints what happens.
     pub is_verbose: bool,
 }
 
@@ -46,7 +46,7 @@ pub struct BillOrders<'a> {
     pub form: Form,
 }
 
-/// What the words of the command line ask for.
+/// The request in the words of the command line.
 #[derive(Debug, Drop)]
 pub enum Asked<'a> {
     /// To run a script.

@@ -42,7 +42,7 @@ fn form(bill: &ArgMatches<'_>) -> Form {
     }
 }
 
-/// What the words of `bill` ask for.
+/// The request in the words of `bill`.
 pub fn bill_orders<'a>(alloc: Global, bill: &ArgMatches<'a>) -> Result<BillOrders<'a>, AllocError> {
     let mut files = Vec::new(alloc);
     if let Some(books) = bill.get_strs("book") {

@@ -24,11 +24,11 @@ Lines of a script, whose words are parted by one space:
   open NAME LIMIT TARIFF, close NAME    open or close a flow
   hold NAME, resume NAME                stop a flow without closing it, and go on
   send NAME HEX                         a packet comes for a flow
-  turn BYTES                            the link writes at most so many bytes
+  turn BYTES                            the link writes at most that many bytes
   torn                                  the writer is declared failed
   report                                show what the link holds
   audit 1, audit 2                      as the first line: the version of the script,
-                                        which is else 1; no answer
+                                        1 if there is none; no answer
 Words of a line:
   NAME    a letter from a to z, then at most 15 of these, 0 to 9, _ or -;
           the currency base is always there
@@ -51,7 +51,7 @@ Answers:
   closed FLOW DROPPED ACCOUNT           a flow was closed
   packet FLOW SEQ                       the packet waits
   wrote FLOW SEQ BYTES whole (or part)  bytes of a frame went out
-  torn FLOW SEQ BYTES                   the writer failed after so many of a frame
+  torn FLOW SEQ BYTES                   the writer failed after that many of a frame
   idle                                  nothing is to be sent
   no NUMBER NAME                        the line is refused
   out HEX                               at the end: all bytes that were written
@@ -81,7 +81,7 @@ Refusals:
 Exit statuses:
   0  the script was run to its end; refused lines are no fault
   1  the script could not be read, the output could not be written, or memory
-     was lacking; with --strict also: a line was refused. Standard error tells
+     was lacking; with --strict also: a line was refused. Standard error reports
      which
   2  the words of the command line are wrong";
 
@@ -89,7 +89,7 @@ Exit statuses:
 pub const SERVER: &str =
     "This is one life of one link, without a file and without books. 'stridelink gateway'
 connects again when the uplink is lost, keeps books, and runs for months.
-Addresses are HOST:PORT; with port 0 the system picks one, which --verbose tells.
+Addresses are HOST:PORT; with port 0 the system picks one, which --verbose prints.
 Order:
   it makes the journal of the life, tries FILE, listens on A and B, connects to C
   it accepts J control connections, each answered as soon as it is there
@@ -97,20 +97,19 @@ Order:
   when all connections have ended, and all that came is sent, it writes the audit
   to FILE and the report to standard output
 A control connection takes the lines of a script, and answers each by one line, or
-by the report; 'stridelink run --help' tells them. Lines of send, turn, torn and
+by the report; 'stridelink run --help' lists them. Lines of send, turn, torn and
 audit have no place there: they are answered 'no 3 Syntax'. So is a line of more
-than 20480 bytes. What comes behind the last line feed is dropped.
+than 20480 bytes. Bytes after the last line feed are dropped.
 An ingress connection brings packets: the length of a flow's name in 1 byte, the
-name, the length of the payload in 2 bytes, the greater first, and the payload of
-1 to 9000 bytes. A connection whose packet is none, or is cut short, ends.
+name, the length of the payload in 2 bytes, big-endian, and the payload of 1 to 9000
+bytes. A connection that sends a malformed or truncated packet is closed.
 The uplink gets the frames: the bytes 4c 02, the number of the flow's tariff in 1
 byte, that of the flow in 4, that of the packet in 8, the length of the payload in 2,
-and the payload. Packets of flows
-that are held or have no tickets are not sent: they stay in the report as waiting,
-and are no fault.
-Shares hold at C while flows are offered more than their shares: each then gets of
-the units that arrive the part that its tickets are of all. A limit of 64 packets or
-more costs least. What is under way in the system's buffers arrives before 'hold',
+and the payload. Packets of flows that are held or have no tickets are not sent: they
+stay in the report as waiting, and are no fault.
+Shares hold at C while flows are offered more than their shares. Each then gets a part
+of the units that arrive, the part that its tickets are of all. A limit of 64 packets
+or more costs least. Bytes under way in the system's buffers arrive before 'hold',
 'resume' and 'amend' are seen at C.
 A life lasts for L events: each command that is answered, each packet that came for
 a flow, and each write call on the uplink is one, refused commands and packets too.
@@ -118,15 +117,15 @@ When it is spent the ingress connections are ended, lines are answered 'no 2 Spe
 and the status is 1.
 FILE is a script: 'stridelink run --life L < FILE' prints the very bytes that C got.
 A FILE that exists is refused before anything listens, unless --force is given; so is
-a link to one. Where FILE is a regular file or not there, a file beside it is written,
+a link to one. If FILE is a regular file or not there, a file beside it is written,
 FILE.1 or the next number that is free, and takes the name FILE at the end; until then
 an old FILE stays as it was. An audit that cannot take that name stays where it is,
-which standard error tells. So does one that finds a new FILE there, without --force.
+which standard error names. So does one that finds a new FILE there, without --force.
 Anything else, such as a device or a pipe, is written in place.
 With --until-eof the end of standard input ends the run: no more connections are
-accepted, of those that are there only what had come is taken, and what was queued
+accepted, those that are there give only the bytes that had come, and what was queued
 is sent. A reply that can't be written for some seconds then ends its connection,
-and an uplink that takes nothing for so long has failed.
+and an uplink that takes nothing for that long has failed.
 A signal, such as that of Ctrl-C, ends the process without an audit, and the file
 beside stays.
 With --verbose standard error has a line for each address, connection and end, for what
@@ -136,7 +135,7 @@ Exit statuses:
   0  all connections have ended, and all that came was sent or refused, or waits in
      a flow that is held or has no tickets; refused lines, and the way in which a
      connection ended, are no fault
-  1  a fault, which standard error tells in its last line; once connections were
+  1  a fault, which standard error reports in its last line; once connections were
      accepted the audit and the report are written nevertheless
   2  the words of the command line are wrong";
 

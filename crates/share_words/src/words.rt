@@ -20,19 +20,19 @@ const LIFE: u64 = 65536;
 /// The version of the program.
 const VERSION: &str = "0.1.0";
 
-/// What is wrong with a word that is not UTF-8.
+/// The fault of a word that is not UTF-8.
 const NOT_TEXT: &str = "invalid UTF-8 was detected in one or more arguments";
 
-/// What is wrong with a life out of range.
+/// The fault of a life out of range.
 const NO_LIFE: &str = "a life is 1 to 16777216 events";
 
 /// How many ingress connections, and how many control connections, a server accepts at most.
 const MOST_CONNECTIONS: u64 = 8;
 
-/// What is wrong with a number of connections out of range.
+/// The fault of a number of connections out of range.
 const NO_CONNECTIONS: &str = "a server accepts 1 to 8 connections of each kind";
 
-// What each word is.
+// The meaning of each word.
 const LIFE_HELP: &str = "the events of the link's life, 1 to 16777216";
 
 const WORKERS_HELP: &str = "how many ingress connections are accepted, 1 to 8";
@@ -162,7 +162,7 @@ fn command_line<'a>(alloc: Global) -> Result<Command<'a>, AllocError> {
     with_subcommand(command, bill_command(alloc))
 }
 
-// What the words of `run` ask for.
+// The request in the words of `run`.
 fn run_orders<'a>(run: &ArgMatches<'a>) -> Orders<'a> {
     Orders {
         life: run.get_one::<u64>("life").unwrap_or(LIFE),
@@ -171,7 +171,7 @@ fn run_orders<'a>(run: &ArgMatches<'a>) -> Orders<'a> {
     }
 }
 
-// What the words of `serve` ask for. A number that is missing is 0, which is out of range.
+// The request in the words of `serve`. A number that is missing is 0, which is out of range.
 fn serve_orders<'a>(serve: &ArgMatches<'a>) -> ServeOrders<'a> {
     ServeOrders {
         ingress: serve.get_str("ingress").unwrap_or(""),
@@ -199,7 +199,7 @@ fn is_count(count: u64) -> bool
     count >= 1 && count <= MOST_CONNECTIONS
 }
 
-// What is wrong with the numbers of a run.
+// The fault of the numbers of a run.
 fn wrong_run(orders: &Orders<'_>) -> Option<&'static str>
     ensures { result ≡ None → life_refusal orders.now.life ≡ None }
 {
@@ -209,7 +209,7 @@ fn wrong_run(orders: &Orders<'_>) -> Option<&'static str>
     Some(NO_LIFE)
 }
 
-// What is wrong with the numbers of a server.
+// The fault of the numbers of a server.
 fn wrong_service(orders: &ServeOrders<'_>) -> Option<&'static str>
     ensures { result ≡ None → CanBeServed orders.now.life orders.now.workers orders.now.clerks }
 {
@@ -222,7 +222,7 @@ fn wrong_service(orders: &ServeOrders<'_>) -> Option<&'static str>
     Some(NO_CONNECTIONS)
 }
 
-// What is wrong with numbers, if they are out of range. `clap` refuses these; but its contract says so only of the
+// The fault of numbers that are out of range. `clap` refuses these; but its contract says so only of the
 // arguments of a command, and not of those of a subcommand, so they are tested once more.
 fn out_of_range(asked: &Asked<'_>) -> Option<&'static str>
     requires { (text : _) → asked.now ≢ Asked.Text text }
@@ -235,7 +235,7 @@ fn out_of_range(asked: &Asked<'_>) -> Option<&'static str>
     }
 }
 
-// What the words ask for, before their numbers are tested.
+// The request in the words, before their numbers are tested.
 fn asked_by<'a>(alloc: Global, matches: &ArgMatches<'a>) -> Result<Asked<'a>, AllocError>
     ensures { IfOk result (λ asked. (text : _) → asked ≢ Asked.Text text) }
 {
@@ -251,7 +251,7 @@ fn asked_by<'a>(alloc: Global, matches: &ArgMatches<'a>) -> Result<Asked<'a>, Al
     }
 }
 
-// What is asked for, if its numbers are in range, else a text that says what is wrong.
+// The request if its numbers are in range, otherwise a text with the fault.
 fn in_range<'a>(command: &mut Command<'a>, asked: Asked<'a>) -> Result<Asked<'a>, AllocError>
     requires { (text : _) → asked ≢ Asked.Text text }
     ensures { IfOk result CanBeObeyed }
@@ -262,8 +262,8 @@ fn in_range<'a>(command: &mut Command<'a>, asked: Asked<'a>) -> Result<Asked<'a>
     }
 }
 
-// What words ask for of a command line, which stays its caller's: a function that owns it would drop it in each way
-// out.
+// The request in the words of a command line, which stays its caller's: a function that owns it would drop it in
+// each way out.
 fn asked_of<'a>(
     alloc: Global,
     command: &mut Command<'a>,
@@ -282,7 +282,7 @@ fn asked_of<'a>(
     }
 }
 
-// What the words ask for.
+// The request in the words.
 fn read_words<'a>(alloc: Global, words: &'a [String]) -> Result<Asked<'a>, AllocError>
     ensures { IfOk result CanBeObeyed }
 {
@@ -313,7 +313,7 @@ fn escaped_words(alloc: Global, words: &[String]) -> Result<Vec<String>, AllocEr
     Ok(shown)
 }
 
-// What is wrong with words that have control characters, which are escaped in the text: `clap` writes a wrong word as
+// The fault of words that have control characters, which are escaped in the text: `clap` writes a wrong word as
 // it is.
 fn escaped_fault(
     alloc: Global,
@@ -350,7 +350,7 @@ fn fault_in(asked: Asked<'_>) -> Option<clap::Error>
     None
 }
 
-// A text about these words. If it tells what is wrong with them, their control characters are escaped.
+// A text about these words. If it names their fault, their control characters are escaped.
 fn readable(alloc: Global, words: &[String], text: clap::Error) -> Result<clap::Error, AllocError>
     requires { kind_of text ≢ ErrorKind.OutOfMemory }
     ensures text { IfOk result (λ shown. kind_of shown ≢ ErrorKind.OutOfMemory) }
@@ -371,7 +371,7 @@ fn not_text(alloc: Global) -> Result<clap::Error, AllocError>
     text
 }
 
-/// What the words ask for. `words` is `None` if one of them is not UTF-8, and then the answer is a text that says so.
+/// The request in the words. `words` is `None` if one of them is not UTF-8, and then the answer is a text that says so.
 pub fn parse<'a>(alloc: Global, words: Option<&'a [String]>) -> Result<Asked<'a>, AllocError>
     ensures { IfOk result CanBeObeyed }
 {

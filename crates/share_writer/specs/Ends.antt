@@ -1,4 +1,4 @@
--- What is written of a book at its close.
+-- The lines that are written of a book at its close.
 use Rattle.std.specs.Prelude.{ℕ, List}
 use Rattle.share_catalog.specs.declared.row.Row.{Row}
 use Rattle.share_writer.specs.declared.book_close.BookClose.{BookClose}

@@ -1,4 +1,4 @@
--- What a contract sees of the queue to the disk, and what its calls do. A count stops at 2^64 - 1.
+-- The view of the queue to the disk in contracts, and the effects of its calls. A count stops at 2^64 - 1.
 use Rattle.std.specs.Prelude.{ℕ, ◌+◌, ◌-◌, ◌^◌, min, Bool, true, false, List, length, if◌then◌else◌}
 
 -- how many bytes were given to the disk, over all books; how many of these when a sync was asked for last; how many

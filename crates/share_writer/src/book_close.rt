@@ -1,11 +1,11 @@
-//! What is written of a book at its close.
+//! The lines that are written of a book at its close.
 ghost use Rattle.std.specs.Prelude.{◌≡◌};
 ghost use Rattle.share_writer.specs.Ends.{row_of};
 
 use share_catalog::{Closing, Digest, Row, Tariffs, TextKind, Time, Totals};
 use share_disk::BookEnd;
 
-/// What is written of a book at its close, but for the digest of its text.
+/// The lines that are written of a book at its close, but for the digest of its text.
 #[derive(Drop)]
 pub struct BookClose {
     pub kind: TextKind,

@@ -1,4 +1,4 @@
-//! What threads ask of each other.
+//! Requests of threads to each other.
 ghost use Rattle.std.specs.Prelude.{◌≡◌, []};
 
 use crate::book_close::BookClose;
@@ -7,7 +7,7 @@ use share_disk::OpenText;
 use share_transit::Page;
 use std::fs::File;
 
-/// What the writer is asked to do.
+/// The jobs of the writer.
 #[derive(Drop)]
 pub(crate) enum WriterJob {
     /// To write these bytes after all others.
@@ -28,7 +28,7 @@ pub(crate) enum WriterJob {
     Stop,
 }
 
-/// What the filer is asked to do.
+/// The jobs of the filer.
 #[derive(Drop)]
 pub(crate) enum FilerJob {
     /// To make the names and the tariffs of a book durable that was begun.

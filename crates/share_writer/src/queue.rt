@@ -203,8 +203,8 @@ impl DiskQueue {
         let _ = self.writer.send(rt, WriterJob::Last { close });
     }
 
-    /// Has all bytes that were given before made durable, beside all else. Returns false, and does nothing, if that is
-    /// under way for earlier ones.
+    /// Has all bytes that were given before made durable, beside all other work. Returns false, and does
+    /// nothing, if that is under way for earlier ones.
     pub fn sync<R: Wait>(&mut self, rt: &R) -> bool
         ensures { MatchBool result (self.new ≡ with_sync self.old) (self.new ≡ self.old) }
     {

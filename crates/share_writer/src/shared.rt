@@ -1,4 +1,4 @@
-//! What the thread of the loop and the two beside it share.
+//! The values that the thread of the loop and the two beside it share.
 
 use crate::faults::fault_of;
 use std::io;
@@ -10,7 +10,7 @@ use std::time::Duration;
 /// After how many seconds a call that failed is made again.
 const RETRY_SECONDS: u64 = 1;
 
-/// What a thread beside the loop shows of its calls of the system.
+/// The calls of the system that a thread beside the loop shows.
 #[derive(Drop)]
 pub(crate) struct ThreadState {
     // The number of the fault for which its call is made again, and 0 if there is none.
@@ -49,7 +49,7 @@ impl ThreadState {
     }
 }
 
-/// What the three threads share.
+/// The values that the three threads share.
 #[derive(Drop)]
 pub(crate) struct Shared {
     // How many bytes were written, over all books.

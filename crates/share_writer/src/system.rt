@@ -2,7 +2,7 @@
 
 use std::fs::{File, Files};
 
-/// What reads the names in a folder of the system.
+/// The reader of the names in a folder of the system.
 pub type SystemDir = <HostRuntime as Files>::Dir;
 
 /// A handle of the system's files, which threads may share: the types of its files and folders are those of the system.

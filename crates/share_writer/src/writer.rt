@@ -78,7 +78,7 @@ impl<'s> Writer<'s> {
         is_whole
     }
 
-    // Begins a book, and has the open one closed. Its files become durable beside all else.
+    // Begins a book, and has the open one closed. Its files become durable beside all other work.
     fn begin<R: Files<File = File> + Wait>(
         &mut self,
         rt: &R,

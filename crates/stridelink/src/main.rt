@@ -16,9 +16,9 @@ use std::fs::File;
 use std::io::{BufReader, IsTerminal, Printer, StdinLock};
 use std::process::ExitCode;
 
-/// What is printed if the lines of a script come from a terminal.
+/// The text that is printed if the lines of a script come from a terminal.
 const AT_TERMINAL: &str =
-    "stridelink: reads the lines of a script; 'stridelink run --help' tells them";
+    "stridelink: reads the lines of a script; 'stridelink run --help' lists them";
 
 // Runs the script that standard input brings.
 fn run_input<'a>(rt: &'a HostRuntime, orders: Orders<'_>) -> Result<ExitCode, ScriptFault>

@@ -61,6 +61,29 @@ pub(super) const CSV: &str =
      60d14de99524e374a5dc44361c89d40f864ebd63756e05254cbf2360ef2759b0
 ";
 
+/// `books.csv` with its row, and that of another book behind it.
+pub(super) const TWO_ROWS: &str =
+    "book,kind,opened,closed,why,tariffs,events,packets,bytes,units,amount,sha256
+1,lengths,2026-01-31T23:59:59Z,2026-01-31T23:59:59Z,cut,1/0/1 48/16/2,13,1,18,18,18,\
+     60d14de99524e374a5dc44361c89d40f864ebd63756e05254cbf2360ef2759b0
+2,lengths,2026-01-31T23:59:59Z,2026-01-31T23:59:59Z,cut,1/0/1 48/16/2,13,1,18,18,18,\
+     60d14de99524e374a5dc44361c89d40f864ebd63756e05254cbf2360ef2759b0
+";
+
+/// `books.csv` with its row in the place of the names of the columns.
+pub(super) const NO_COLUMNS: &str =
+    "1,lengths,2026-01-31T23:59:59Z,2026-01-31T23:59:59Z,cut,1/0/1 48/16/2,13,1,18,18,18,\
+     60d14de99524e374a5dc44361c89d40f864ebd63756e05254cbf2360ef2759b0
+";
+
+/// `books.csv` with a line behind its row that is no row.
+pub(super) const NO_ROW: &str =
+    "book,kind,opened,closed,why,tariffs,events,packets,bytes,units,amount,sha256
+1,lengths,2026-01-31T23:59:59Z,2026-01-31T23:59:59Z,cut,1/0/1 48/16/2,13,1,18,18,18,\
+     60d14de99524e374a5dc44361c89d40f864ebd63756e05254cbf2360ef2759b0
+2,lengths
+";
+
 /// `books.csv` with a part of its row.
 pub(super) const CUT_CSV: &str =
     "book,kind,opened,closed,why,tariffs,events,packets,bytes,units,amount,sha256

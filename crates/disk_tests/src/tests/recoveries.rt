@@ -1,9 +1,11 @@
 //! Folders that kills left, and what a start makes of them.
 
-use super::books::{BAD_CSV, CSV, CUT_CSV, CUT_TEXT, NO_RUN, REPORT, TARIFFS, TEXT};
+use super::books::{
+    BAD_CSV, CSV, CUT_CSV, CUT_TEXT, NO_COLUMNS, NO_ROW, NO_RUN, REPORT, TARIFFS, TEXT, TWO_ROWS,
+};
 use super::folders::{Named, count_files, has_file, make_file, new_folder, path_in, remove_folder};
 use share_catalog::{BookTariff, Closing, Row, Tariffs, TextKind, Time, Totals};
-use share_disk::{BookEnd, Folder, NotOpened};
+use share_disk::{BookEnd, Folder, NotOpened, NotRecovered};
 use std::alloc::Global;
 use std::fs::{File, Files};
 use std::process::Abort;
@@ -26,7 +28,7 @@ const CLOSED: [Named; 3] = [
 ];
 
 /// Folders that a kill before and after each step of a close leaves, and texts that cannot be closed.
-const CASES: [Case; 12] = [
+const CASES: [Case; 13] = [
     Case {
         name: "nothing",
         before: &[],
@@ -83,6 +85,20 @@ const CASES: [Case; 12] = [
         next: 2,
     },
     Case {
+        name: "no report, and a row before another one",
+        before: &[
+            ("000001.lengths", TEXT),
+            ("000001.tariffs", TARIFFS),
+            ("books.csv", TWO_ROWS),
+        ],
+        after: &[
+            ("000001.lengths", TEXT),
+            ("000001.report", REPORT),
+            ("books.csv", TWO_ROWS),
+        ],
+        next: 3,
+    },
+    Case {
         name: "tariffs that are left",
         before: &[
             ("000001.lengths", TEXT),
@@ -118,6 +134,9 @@ const CASES: [Case; 12] = [
         next: 42,
     },
 ];
+
+/// Texts of `books.csv` that are refused, and the number of the line that is named.
+const REFUSED: [(&str, u64); 2] = [(NO_COLUMNS, 1), (NO_ROW, 3)];
 
 // Checks that a folder has these files, and no others.
 fn has_files<R: Files<File = File> + Abort>(
@@ -171,6 +190,35 @@ fn play<R: Files<File = File> + Abort>(rt: &R, alloc: Global, case: &Case) -> Re
 fn folders_that_kills_left_are_recovered(rt: HostRuntime) -> Result<(), Fail> {
     for case in CASES {
         play(&rt, rt.alloc(), &case)?;
+    }
+    Ok(())
+}
+
+// Wants that a start refuses a text of `books.csv`, and names this line.
+fn expect_refused<R: Files<File = File> + Abort>(
+    rt: &R,
+    alloc: Global,
+    text: &'static str,
+    line: u64,
+) -> Result<(), Fail> {
+    let path = new_folder(rt, alloc)?;
+    make_file(rt, alloc, path.as_str(), ("books.csv", text))?;
+    let Ok(folder) = Folder::open(rt, alloc, path.as_str()) else {
+        panic!(rt; "not opened");
+    };
+    let named = match folder.recover(rt, alloc) {
+        Err(NotRecovered::Line(number)) => number,
+        _ => 0,
+    };
+    assert!(rt; named == line, "line {named}, wanted {line}");
+    drop(folder);
+    remove_folder(rt, alloc, path.as_str())
+}
+
+#[test]
+fn lines_that_are_no_rows_are_refused(rt: HostRuntime) -> Result<(), Fail> {
+    for (text, line) in REFUSED {
+        expect_refused(&rt, rt.alloc(), text, line)?;
     }
     Ok(())
 }

@@ -72,8 +72,8 @@ fn count_out(outbox: &mut Outbox, count: u32) {
     outbox.sent(ready);
 }
 
-// What waits is carried to a book over this plan, and then sent. So many packets are dropped, and no block is kept of
-// the closed book, of the packets that were dropped, and of those that were sent.
+// Packets that wait are carried to a book over this plan, and then sent. That many packets are dropped, and no block
+// is kept of the closed book, of the packets that were dropped, and of those that were sent.
 fn carries(
     rt: &impl Abort,
     alloc: Global,

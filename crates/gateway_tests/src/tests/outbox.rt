@@ -14,7 +14,7 @@ const SECOND: &[u8] = b"L\x02\x01\0\0\0\x01\0\0\0\0\0\0\0\x02\0\x01b";
 /// How many bytes the longest frame has.
 const LONGEST: usize = 9017;
 
-/// What is done with an outbox.
+/// A step of an outbox in a test.
 #[derive(Clone, Copy, Debug)]
 enum Step {
     Put(&'static [u8]),
@@ -61,7 +61,7 @@ fn puts(rt: &impl Abort, row: usize, outbox: &mut Outbox, frame: &[u8], is_taken
     same(rt, row, outbox.offer(frame), wanted);
 }
 
-// Says that so many bytes are out, of those that are ready.
+// Marks that many bytes as out, of those that are ready.
 fn sends(rt: &impl Abort, row: usize, outbox: &mut Outbox, count: usize) {
     let ready = outbox.ready().len();
     holds(rt, row, count <= ready);

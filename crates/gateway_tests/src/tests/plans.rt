@@ -136,7 +136,7 @@ fn tenants_are_too_many(rt: HostRuntime) {
     is_not_opened(&rt, rt.alloc(), "65 tenants", &plan, wanted);
 }
 
-// A life of so many events is none of a book's.
+// A life of that many events is not a book's.
 fn is_no_life(rt: &impl Abort, alloc: Global, plan: &Plan, events: u64) {
     match open_engine(alloc, plan, Four, events) {
         Err(why) => same(rt, events, why, NotOpened::Range),

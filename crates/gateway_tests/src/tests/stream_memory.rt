@@ -1,4 +1,4 @@
-//! What the outbox, records and frames take of memory: all of it when they are made. Requests are refused by the
+//! The memory of the outbox, records and frames: all of it is taken when they are made. Requests are refused by the
 //! allocator of `.ci/allocator.c` alone, with which `.ci/memory` runs these tests; with any other the first call
 //! succeeds.
 
@@ -10,7 +10,7 @@ use share_model::{Answer, TellingWriter, asks};
 use std::alloc::{AllocError, Global};
 use std::process::Abort;
 
-/// What is made.
+/// The type that is made.
 #[derive(Clone, Copy, Debug)]
 enum Made {
     Outbox,

@@ -52,7 +52,7 @@ fn hands(rt: &impl Abort, alloc: Global, transit: &mut Transit, book: &mut Book<
     count
 }
 
-// Says that so many bytes are out, of those that are ready.
+// Marks that many bytes as out, of those that are ready.
 fn sends(transit: &mut Transit, count: usize) {
     let ready = transit.ready().len();
     transit.sent(count.min(ready));

@@ -71,7 +71,7 @@ fn leaves_one<T: Wait + Abort>(rt: &T, alloc: Global, end: &mut IngressEnd) {
     }
 }
 
-// Offers and takes. What is left in the queue is given back with it.
+// Offers and takes. The rest of the queue is given back with it.
 fn hands_over<T: Wait + Abort>(rt: &T, alloc: Global) {
     mark(alloc);
     let (mut intake, mut end) = one_end(rt, alloc, 1);

@@ -67,7 +67,7 @@ impl<T: Wait> Gate for Watching<T> {
 /// Three records for the flow a, with the payloads `b`, `c` and `d`.
 const THREE: &[u8] = b"\x01a\x00\x01b\x01a\x00\x01c\x01a\x00\x01d";
 
-/// What a worker reads one byte a read: the bytes, the byte in place of which a read fails, and the bound.
+/// The bytes that a worker reads one byte a read: the bytes, the byte in place of which a read fails, and the bound.
 type Bytes = (&'static [u8], usize, u64);
 
 const WHOLE: Bytes = (THREE, MANY, 100);

@@ -124,7 +124,7 @@ pub(super) fn is_written(rt: &impl Abort, alloc: Global, journal: &Journal, want
     drop(output);
 }
 
-/// Where a writer refuses a byte of the audit, what comes before it is written, and the journal is as it was.
+/// If a writer refuses a byte of the audit, what comes before it is written, and the journal is as it was.
 pub(super) fn is_cut_at_each(rt: &impl Abort, alloc: Global, journal: &Journal, wanted: &[u8]) {
     for last in [Answer::Failed, Answer::Interrupted, Answer::Accepted(0)] {
         for accepted in 0..wanted.len() {

@@ -14,7 +14,7 @@ use std::process::Abort;
 /// A frame: its flow, its number, and how many bytes its payload has.
 type Frame = (u32, u32, u32);
 
-/// What is asked before the first turn and after a fault, the frames in their order, their bytes in each version, their
+/// The questions before the first turn and after a fault, the frames in their order, their bytes in each version, their
 /// tariff (cell, overhead and price), and whether the audits are run again.
 struct Run {
     ready: &'static str,
@@ -83,7 +83,7 @@ const RUNS: [Run; 3] = [
     },
 ];
 
-/// What the writer does once it took some frames whole and then `out` bytes of the next one.
+/// The answers of the writer once it took some frames whole and then `out` bytes of the next one.
 #[derive(Clone, Copy, Debug)]
 struct Case {
     version: Version,
@@ -117,7 +117,7 @@ fn length(version: Version, frame: Frame) -> u32 {
     frame.2.saturating_add(version.header() as u32)
 }
 
-// What so many bytes of a frame cost.
+// The cost of that many bytes of a frame.
 fn cost(run: &Run, count: u32) -> u64 {
     let (cell, overhead, price) = run.tariff;
     if count == 0 {
@@ -129,7 +129,8 @@ fn cost(run: &Run, count: u32) -> u64 {
         .saturating_mul(price)
 }
 
-// The bytes that are out, and the account of a flow, once so many frames are whole and bytes of the next one are paid.
+// The bytes that are out, and the account of a flow, once that many frames are whole and bytes of the next one are
+// paid.
 fn out_and_account(run: &Run, version: Version, flow: u32, frames: usize, paid: u32) -> (u32, u64) {
     let (mut out, mut account) = (paid, 0_u64);
     for (place, frame) in run.frames.iter().enumerate() {
@@ -149,7 +150,7 @@ fn out_and_account(run: &Run, version: Version, flow: u32, frames: usize, paid: 
     (out, account)
 }
 
-// So many frames are whole, and of the next one these bytes are out and paid.
+// That many frames are whole, and of the next one these bytes are out and paid.
 fn shows(rt: &impl Abort, recorder: &Recording, run: &Run, case: Case, frames: usize, paid: u32) {
     let link = recorder.engine();
     let [one, two] = run.bytes;

@@ -156,7 +156,7 @@ const RUNS: [Run; 6] = [
     FIELD_BY_FIELD,
 ];
 
-/// What is answered without an event.
+/// The answers without an event.
 const NO_EVENTS: [&str; 5] = [
     "idle",
     "again",

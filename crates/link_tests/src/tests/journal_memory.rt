@@ -1,4 +1,4 @@
-//! Where a journal and a recorder find no memory, that their other calls take none, and what they keep: no contract
+//! Tests of calls of a journal and a recorder that find no memory, and of calls that take none: no contract
 //! sees these. Each call that takes memory is made on new values again and again: first its first request is refused,
 //! then its second, and so on, until none is refused. Requests are refused by the allocator of `.ci/allocator.c` alone,
 //! with which `.ci/memory` runs these tests; with any other the first call succeeds, and no block is seen.
@@ -209,7 +209,7 @@ fn parts_take_none(rt: &impl Abort, alloc: Global, said: &mut Said, place: usize
     ends_without_memory(rt, alloc, recorder, version);
 }
 
-/// Of these packets, which are too long to stand in their place, one is sent, one is torn, one is dropped, and two are
+/// One of these packets, which are too long to stand in their place, is sent, one is torn, one is dropped, and two are
 /// refused.
 const HELD: [&str; 2] = [
     "open a 2 1 = flow 1; mktkt 10 base = ticket 1; fund 1 flow a = ok; fill a 40 = packet 1 1; \
@@ -225,7 +225,7 @@ const HELD: [&str; 2] = [
 /// A packet that is no event leaves nothing.
 const LATE: [&str; 2] = ["fill a 40 = no 2 Spent", "fill a 9000 = no 2 Spent"];
 
-// What is held of packets that were recorded is given back with the recorder.
+// Memory of packets that were recorded is given back with the recorder.
 fn keeps_nothing(
     rt: &impl Abort,
     alloc: Global,

@@ -1,10 +1,10 @@
-//! What a link drops, and that its calls take no memory: no contract sees either. Bodies like these meet every clause,
-//! and the test here sees each of them. `std::mem::forget` in place of a drop: of a shelf by `Link::new` and of a
-//! writer by `Engine::new`, where the life is out of range or a request for memory is refused; of the link by
-//! `into_writer`; of a payload by `arrive`, where the packet is refused, and by `finish`, where it is sent; of a buffer
-//! and its packets, where a flow is closed. A `reserve` in `turn`, or in another call that is to take no memory. Tokens
-//! count the drops of shelves and writers; the rest is seen over the allocator of `.ci/allocator.c` alone, as
-//! `.ci/memory` runs it.
+//! A link drops its packets, and its calls take no memory: no contract sees either. Bodies like these meet every
+//! clause, and the test here sees each of them. `std::mem::forget` in place of a drop: of a shelf by `Link::new`
+//! and of a writer by `Engine::new`, if the life is out of range or a request for memory is refused; of the link
+//! by `into_writer`; of a payload by `arrive`, if the packet is refused, and by `finish`, if it is sent; of a
+//! buffer and its packets, if a flow is closed. A `reserve` in `turn`, or in another call that is to take no
+//! memory. Tokens count the drops of shelves and writers; the rest is seen over the allocator of `.ci/allocator.c`
+//! alone, as `.ci/memory` runs it.
 
 use super::allocator::{
     REQUESTS, is_refused, keeps_none, mark, refuse, refuse_each, takes_none, was_refused, were_made,
@@ -197,7 +197,7 @@ const UNDER_WAY: &str = "\
     open a 2 1 = flow 1; mktkt 10 base = ticket 1; fund 1 flow a = ok; fill a 40 = packet 1 1; \
     turn 65535 = wrote 1 1 52 whole";
 
-/// Of these packets none is kept: two are refused, and two are sent, the second in two parts.
+/// None of these packets is kept: two are refused, and two are sent, the second in two parts.
 const REFUSED_AND_SENT: &str = "\
     fill zz 40 = no 7 NoFlow; fill a 40 = packet 1 2; fill a 40 = packet 1 3; fill a 40 = no 19 BufferFull; \
     turn 65535 = again; turn 65535 = wrote 1 2 52 whole; turn 20 = wrote 1 3 20 part; \
@@ -309,7 +309,7 @@ fn long_payloads_take_none(rt: &impl Abort, alloc: Global, said: &mut Said, link
     takes_none(rt, "a torn packet", alloc);
 }
 
-/// What is played on a new link, and its life.
+/// The events that are played on a new link, and its life.
 #[derive(Clone, Copy)]
 enum Case {
     Packets,

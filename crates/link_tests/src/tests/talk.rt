@@ -11,14 +11,14 @@ use std::alloc::Global;
 use std::process::Abort;
 use std::str::from_utf8;
 
-/// What a link answered, as text. It has room for each answer, so that no row takes memory.
+/// The answer of a link, as text. It has room for each answer, so that no row takes memory.
 pub(super) type Said = PlainWriter<Vec<u8>>;
 
 pub(super) fn said(rt: &impl Abort, alloc: Global) -> Said {
     PlainWriter(Vec::with_capacity(alloc, 128).ok().expect(rt, "memory"))
 }
 
-/// What takes events: a link, or its recorder. The number is that of a clerk or a worker.
+/// A taker of events: a link, or its recorder. The number is that of a clerk or a worker.
 pub(super) trait Talks {
     fn command(&mut self, number: u64, command: Command) -> Reply;
 
@@ -40,7 +40,7 @@ pub(super) trait Talks {
     /// A question to the link.
     fn read(&self, question: &str) -> Option<i128>;
 
-    /// What an event changes, and how many entries there are.
+    /// The changes of an event, and how many entries there are.
     fn shown(&self) -> (Totals, GlobalPart, u64);
 }
 
@@ -122,7 +122,7 @@ impl<W: TellingWriter, S: Rates> Talks for Recorder<W, S> {
     }
 }
 
-// What is read of a link: the answer to `events`, `flow a`, `place 1` and others.
+// The readings of a link: the answer to `events`, `flow a`, `place 1` and others.
 fn answer<W, S: Rates>(link: &Engine<W, S>, question: &str) -> Option<i128> {
     let (what, of) = question.split_once(" ").unwrap_or((question, ""));
     match what {
@@ -229,7 +229,7 @@ pub(super) fn ask<L: Talks>(
     same(rt, "an answer", answered, Ok(()));
 }
 
-/// What was answered last.
+/// The last answer.
 pub(super) fn text_of<'a>(rt: &impl Abort, said: &'a Said) -> &'a str {
     let text = from_utf8(said.0.as_slice()).ok().expect(rt, "text");
     text.trim_end()
@@ -261,7 +261,7 @@ pub(super) fn talk<L: Talks>(
     }
 }
 
-/// The same, where memory is no matter.
+/// The same, if memory does not matter.
 pub(super) fn play<L: Talks>(rt: &impl Abort, alloc: Global, link: &mut L, rows: &str) {
     let mut said = said(rt, alloc);
     talk(rt, alloc, &mut said, link, rows);

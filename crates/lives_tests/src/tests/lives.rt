@@ -7,7 +7,7 @@ use share_transit::{Page, Transit};
 use std::alloc::Global;
 use std::process::Abort;
 
-/// What a life is left with once its books followed one another: the price of the tariff, the packets of a and b that
+/// The remainder of a life once its books followed one another: the price of the tariff, the packets of a and b that
 /// were dropped, and those that wait.
 #[derive(Clone, Copy)]
 struct Row {

@@ -32,7 +32,7 @@ pub(super) fn keeps_none<R: Debug + Copy>(rt: &impl Abort, row: R, alloc: Global
     holds(rt, (row, "keeps no block"), !asks!(alloc, IS_HELD_OTHER));
 }
 
-/// So many bytes were asked for since the mark, and not one more.
+/// That many bytes were asked for since the mark, and not one more.
 pub(super) fn asked_for<R: Debug + Copy>(
     rt: &impl Abort,
     row: R,

@@ -5,6 +5,7 @@ use crate::tests::allocator::{asked_for, is_steered, mark, refuse, took_none, wa
 use crate::tests::assertions::{holds, same};
 use share_base::{
     Body, FlowNo, HEADER_ROOM, MAX_IN_PLACE, MAX_PAYLOAD, Name, Parcel, Refusal, Reply, TicketNo,
+    ZeroFrame,
 };
 use std::alloc::Global;
 use std::cmp::Ordering;
@@ -77,7 +78,7 @@ fn names_are_spelled_ordered_and_hashed(rt: HostRuntime) {
     }
 }
 
-/// What is made of a payload.
+/// A call that makes a payload.
 #[derive(Clone, Copy, Debug)]
 enum Made {
     Body,
@@ -105,7 +106,7 @@ fn makes(alloc: Global, made: Made, payload: &[u8]) -> Result<bool, Refusal> {
     }
 }
 
-/// Room for a header, and sixteen bytes behind it.
+/// Room for a header, and sixteen bytes after it.
 const ROOM_AND_SIXTEEN: &[u8; HEADER_ROOM + MAX_IN_PLACE] = b".................0123456789abcdef";
 
 /// Headers that are stamped in turn, so that each length comes after itself and after the other one.
@@ -125,6 +126,22 @@ fn is_vector_stamped(vector: Vec<u8>, payload: &[u8]) -> bool {
     shows_all(Body::from_vec(vector), payload)
 }
 
+/// How many zeros make a payload: the bounds, what a value holds, and one byte more.
+const ZEROS: [usize; 5] = [1, 2, 16, 17, 9000];
+
+// The same of a body that `zeros` makes of each of these counts.
+fn are_zeros_stamped(alloc: Global) -> bool {
+    let longest = [0; MAX_PAYLOAD];
+    let mut are_stamped = true;
+    for count in ZEROS {
+        if count < 1 || count > MAX_PAYLOAD {
+            return false;
+        }
+        are_stamped = are_stamped && shows_all(Body::zeros(alloc, count), &longest[..count]);
+    }
+    are_stamped
+}
+
 // The same of a body that `from_array` makes of the first bytes of the sixteen.
 fn is_array_stamped(alloc: Global, payload: &[u8]) -> bool {
     let count = payload.len();
@@ -137,21 +154,22 @@ fn is_array_stamped(alloc: Global, payload: &[u8]) -> bool {
 // Whether the body shows its payload alone, and then each header before it.
 fn shows_all(body: Body, payload: &[u8]) -> bool {
     let mut body = body;
-    let mut shows = body.framed() == payload && body.as_slice() == payload;
+    let mut frame = ZeroFrame::new();
+    let mut shows = body.framed_in(&mut frame) == payload && body.as_slice() == payload;
     for header in HEADERS {
-        shows = shows && shows_header(&mut body, header, payload);
+        shows = shows && shows_header(&mut body, &mut frame, header, payload);
     }
     drop(body);
     shows
 }
 
 // Stamps a header. Returns whether the body shows it and the payload.
-fn shows_header(body: &mut Body, header: &[u8], payload: &[u8]) -> bool {
+fn shows_header(body: &mut Body, frame: &mut ZeroFrame, header: &[u8], payload: &[u8]) -> bool {
     if header.len() != 12 && header.len() != 17 {
         return false;
     }
     body.stamp(header);
-    body.framed().strip_prefix(header) == Some(payload) && body.as_slice() == payload
+    body.framed_in(frame).strip_prefix(header) == Some(payload) && body.as_slice() == payload
 }
 
 /// Each refusal: its number, its name and its text.
@@ -241,8 +259,8 @@ fn refusals_have_numbers_names_and_texts(rt: HostRuntime) {
     holds(&rt, "words", are_words());
 }
 
-/// What is made, its payload, and how many requests that takes. A body takes one if its payload and the room before it
-/// have more than 33 bytes, and it is for no more than these. A parcel has two bodies.
+/// A call that makes a value, its payload, and how many requests that takes. A body takes one if its payload and
+/// the room before it have more than 33 bytes, and it is for no more than these. A parcel has two bodies.
 const COPIES: [(Made, &[u8], u16); 11] = [
     (Made::Body, b"", 0),
     (Made::Body, b"0", 0),
@@ -257,7 +275,7 @@ const COPIES: [(Made, &[u8], u16); 11] = [
     (Made::Parcel, &[7; 9001], 0),
 ];
 
-// What making it answers with ample memory: a payload has 1 to 9000 bytes.
+// The answer with ample memory: a payload has 1 to 9000 bytes.
 fn made_of(payload: &[u8]) -> Result<bool, Refusal> {
     if payload.is_empty() || payload.len() > MAX_PAYLOAD {
         return Err(Refusal::Range);
@@ -299,8 +317,15 @@ fn are_answered(alloc: Global, parcel: Parcel, long: Vec<u8>, short: Vec<u8>) ->
     let long = is_vector_stamped(long, b"0123456789abcdefg");
     let short = is_vector_stamped(short, b"0123456789abcdef");
     let array = is_array_stamped(alloc, b"0123456789abcdef");
+    let zeros = are_zeros_stamped(alloc);
     let [left, right] = [b"a-", b"a0"];
-    halves && long && short && array && are_ordered(left, right, Ordering::Less) && are_words()
+    halves
+        && long
+        && short
+        && array
+        && zeros
+        && are_ordered(left, right, Ordering::Less)
+        && are_words()
 }
 
 #[test]

@@ -9,7 +9,7 @@ use crate::tests::allocator::{
     is_steered, keeps_none, lack, mark, refuse, took_none, was_answered, was_refused,
 };
 use crate::tests::assertions::{holds, same};
-use share_base::{Body, FlowNo, Refusal};
+use share_base::{Body, FlowNo, Refusal, ZeroFrame};
 use share_flows::{Buffers, Place};
 use share_model::Backlog;
 use std::alloc::Global;
@@ -76,7 +76,7 @@ fn is_framed(buffers: &Buffers, flow: FlowNo, framed: &[u8]) -> bool {
         return framed.is_empty();
     }
     let (_, body) = buffers.head(flow);
-    body.framed() == framed
+    body.framed_in(&mut ZeroFrame::new()) == framed
 }
 
 fn pop(buffers: &mut Buffers, flow: FlowNo) -> Option<u8> {

@@ -15,7 +15,7 @@ const HI: &[u8; 14] = b"\x4c\x01\x00\x00\x00\x01\x00\x00\x00\x01\x00\x02hi";
 
 const HI2: &[u8; 19] = b"\x4c\x02\x01\x00\x00\x00\x01\x00\x00\x00\x00\x00\x00\x00\x01\x00\x02hi";
 
-// What `hi` is read as. The tariff is 0 in version 1, which has none.
+// The reading of `hi`. The tariff is 0 in version 1, which has none.
 const READ: FrameRead2 = FrameRead2::Frame {
     flow: FlowNo(1),
     seq: 1,
@@ -73,7 +73,7 @@ const ROWS: [(Version, &str, FrameRead2); 35] = [
     (Two, "4c0208000000010000000000000001", More),
 ];
 
-// What bytes are read as in a version.
+// The reading of bytes in a version.
 fn read(version: Version, bytes: &[u8]) -> FrameRead2 {
     match version {
         Two => read_frame2(bytes),
@@ -98,7 +98,7 @@ fn digit(byte: u8) -> u8 {
     }
 }
 
-// What bytes in hexadecimal are read as, at most 20 of them.
+// The reading of bytes in hexadecimal, at most 20 of them.
 fn read_hex(version: Version, text: &str) -> FrameRead2 {
     let mut bytes = [0; 20];
     for (place, pair) in bytes.iter_mut().zip(text.as_bytes().chunks_exact(2)) {

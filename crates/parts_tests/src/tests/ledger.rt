@@ -10,12 +10,12 @@ use share_ledger::Ledger;
 use std::alloc::Global;
 use std::process::Abort;
 
-/// What a table is about, the rows that lead up to it, and its own rows, which take no memory. A row is a command of a
+/// The subject of a table, the rows that lead up to it, and its own rows, which take no memory. A row is a command of a
 /// script (`open` without a limit and a tariff), or one of the words of `ask`. After ` = ` stands what it answers: a
 /// number, or the name of a refusal.
 type Table = (&'static str, &'static str, &'static str);
 
-/// The answer to a call: a number, or nothing to tell, or why nothing was done.
+/// The answer to a call: a number, or nothing, or the refusal.
 type Answer = Result<Option<u64>, Refusal>;
 
 /// 100 of `base` back x, of which 3 back y and 4 fund a. Of y 1 funds each of b and c.
@@ -240,7 +240,7 @@ fn number_of(flow: Option<FlowNo>) -> Option<u64> {
     }
 }
 
-// The number or the tickets of the flow at a place, its number if it is active, or the tickets that each of so many
+// The number or the tickets of the flow at a place, its number if it is active, or the tickets that each of that many
 // first flows has.
 fn read_place(ledger: &Ledger, verb: &str, first: u64) -> Answer {
     let place = usize::try_from(first).unwrap_or(usize::MAX);
@@ -288,7 +288,7 @@ fn numbered(rt: &impl Abort, letter: u8, k: u32) -> Name {
     Name::read(&[letter, tens, ones]).expect(rt, "a name")
 }
 
-// Makes so many tickets of a currency, which fund a holder.
+// Makes that many tickets of a currency, which fund a holder.
 fn fund_many(
     ledger: &mut Ledger,
     count: u32,

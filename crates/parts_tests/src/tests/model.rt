@@ -28,7 +28,7 @@ fn are_counts(counts: Result<Vec<usize>, AllocError>, wanted: &[usize]) -> bool 
 /// The longest piece and the longest buffer, in bytes.
 const LONGEST: usize = 65536;
 
-/// What a call of std's answers: how many of its bytes, or an error.
+/// The answer of a call of std: how many of its bytes, or an error.
 #[derive(Clone, Copy, Debug)]
 enum StdAnswer {
     All,
@@ -37,7 +37,7 @@ enum StdAnswer {
     Error(ErrorKind),
 }
 
-/// What is answered for each length, in turn.
+/// The answer for each length, in turn.
 const ANSWERS: [StdAnswer; 7] = [
     StdAnswer::All,
     StdAnswer::Error(ErrorKind::Interrupted),
@@ -170,7 +170,7 @@ fn offered(answer: StdAnswer, length: usize) -> Answer {
     }
 }
 
-// What a read into `length` bytes gives if std's call gives this answer.
+// The result of a read into `length` bytes if std's call gives this answer.
 fn taken(answer: StdAnswer, length: usize) -> Got {
     match offered(answer, length) {
         Answer::Accepted(0) => Got::End,

@@ -7,7 +7,7 @@ use share_tariff::{BookFn, ChargeFn, Tariff, account_after};
 use std::process::Abort;
 use std::test::Fail;
 
-// The units of so many bytes, counted cell by cell.
+// The units of that many bytes, counted cell by cell.
 fn units_by_steps(cell: u64, overhead: u64, count: u32) -> u64
     requires some { 1 ≤ cell }
     requires cell { cell ≤ 2048 }

@@ -10,7 +10,7 @@ use share_stride::Queue;
 use std::alloc::Global;
 use std::process::Abort;
 
-/// The answer to a row: a number, or nothing to tell, or why a move is not made.
+/// The answer to a row: a number, or nothing, or the refusal of a move.
 type Answer = Result<Option<i128>, &'static str>;
 
 // A row is a move of a flow, with its tickets or its units, or what the queue shows after the rows before it. After
@@ -100,7 +100,7 @@ fn make(queue: &mut Queue, verb: &str, flow: FlowNo, amount: u64) -> Answer {
     Ok(None)
 }
 
-// What the queue shows of a flow.
+// The figures that the queue shows of a flow.
 fn shows(queue: &Queue, verb: &str, flow: FlowNo) -> Option<i128> {
     if !queue.contains(flow) {
         return None;

@@ -13,7 +13,7 @@ pub(super) fn same<R: Debug + Copy, T: PartialEq + Debug + Drop>(
     assert!(rt; got == wanted, "{row:?}: {got:?}, wanted {wanted:?}");
 }
 
-/// What the row says is so.
+/// The claim of the row holds.
 pub(super) fn holds<R: Debug + Copy>(rt: &impl Abort, row: R, is: bool) {
     assert!(rt; is, "{row:?}");
 }

@@ -71,7 +71,7 @@ const OF_EIGHT_CLERKS: &str = "\
     C7 open g 4 1 = 19 flow 7; C7 mktkt 1 base = 20 ticket 7; C7 fund 7 flow g = 21 ok; \
     C8 open h 4 1 = 22 flow 8; C8 mktkt 1 base = 23 ticket 8; C8 fund 8 flow h = 24 ok; clerk = no 17 TableFull";
 
-/// A session on a new link with so many places in its queue, workers, clerks and events in its life. First come rows.
+/// A session on a new link with that many places in its queue, workers, clerks and events in its life. First come rows.
 /// Then the link is served while others are played, each in a thread of its own, and while each worker brings a record
 /// for a flow for each byte. After that come rows again.
 #[derive(Clone, Copy)]
@@ -86,7 +86,8 @@ struct Case<'a> {
     // Then it is not settled without these, for these reasons.
     tries: &'static [(Without, WhyUnsettled)],
     after: &'static [&'static str],
-    // It is settled with these books, if there are some, and has written so many bytes, which begin with these pieces.
+    // It is settled with these books, if there are some, and has written that many bytes, which begin with these
+    // pieces.
     books: Option<Books<'static>>,
     bytes: usize,
     pieces: &'a [&'static [u8]],
@@ -334,7 +335,7 @@ where
     });
 }
 
-// The link is served meanwhile, and no longer.
+// The link is served only meanwhile.
 fn is_served<T, L>(rt: &T, alloc: Global, stage: &Stage<Scripted, L>, case: &Case<'_>)
 where
     T: Abort + Threads + Wait + Sync,
@@ -470,7 +471,7 @@ fn served(is_torn: bool) -> &'static [&'static str] {
     if is_torn { BROKEN } else { DRAINED }
 }
 
-// Two packets are written in so many writes, up to a fault if there is one: that is no reason not to settle.
+// Two packets are written in that many writes, up to a fault if there is one: that is no reason not to settle.
 fn is_written<T>(rt: &T, alloc: Global, answers: &[Answer], bytes: usize, writes: usize)
 where
     T: Abort + Threads + Wait + Sync,

@@ -1,4 +1,4 @@
-//! Where a link finds no memory, that its other calls take none, and what it keeps: no contract sees these. Each call
+//! Calls of a link that find no memory, and those that take none, and what it keeps: no contract sees these. Each call
 //! that takes memory is made on a new link again and again: first its first request is refused, then its second, and so
 //! on, until none is refused. Requests are refused by the allocator of `.ci/allocator.c` alone, with which `.ci/memory`
 //! runs this test; with any other the first call succeeds, and no block is seen.
@@ -48,8 +48,8 @@ const TAKE_NONE: &str = "\
     C1 unfund 1 = 32 ok; C1 fund 1 flow a = 33 ok; C1 close a = 34 closed 1 0 18; entries = 34; capacity = 2; \
     clerk = 2";
 
-/// Of long packets, which do not stand in the place of a payload, one is sent, two stay in the queue, and one comes
-/// back.
+/// One of four long packets, which do not stand in the place of a payload, is sent, two stay in the queue, and one
+/// comes back.
 const SENT: &str = "E1 a x*9000 = 1; admit = 1 1 packet 1 1; turn 65535 = wrote 1 1 9017 whole";
 
 const LEFT: &str = "E1 a x*9000 = 2; E1 a x*9000 = 3; E1 a x*9000 = full";
@@ -72,7 +72,7 @@ link                             0
 end
 ";
 
-/// What a link shows: its events, its entries and its totals.
+/// The figures of a link: its events, its entries and its totals.
 fn shown<T: Wait, L: LinkBrand>(rt: &T, stage: &Stage<Writer, L>) -> (u64, u64, Totals) {
     let locked = stage.port.lock(rt);
     let recorder = locked.recorder();
@@ -179,7 +179,7 @@ fn takes_no_memory<T: Abort + Wait, L: LinkBrand>(rt: &T, alloc: Global, stage: 
     drop(session);
 }
 
-/// What is done on a new link, and the request that is refused.
+/// The calls on a new link, and the request that is refused.
 #[derive(Clone, Copy, Debug)]
 enum Play {
     Command(&'static str),

@@ -38,13 +38,13 @@ const OPENED: &str = "\
 
 const HELD: &str = "C1 hold c; pause 1; C1 resume c";
 
-/// After so many packets a worker waits for its connection: each time but one of so many for a millisecond, so that the
-/// link falls asleep.
+/// After that many packets a worker waits for its connection: each time but one of that many for a millisecond, so
+/// that the link falls asleep.
 const PACKETS_A_READ: u64 = 5;
 
 const READS: u64 = 4;
 
-/// How many packets come one by one, each when the one before it was sent and after up to so many yields.
+/// How many packets come one by one, each when the one before it was sent and after up to that many yields.
 const LONE_PACKETS: u64 = 2000;
 
 const YIELDS: u64 = 40;
@@ -52,7 +52,7 @@ const YIELDS: u64 = 40;
 /// How many milliseconds a run may take.
 const LIMIT: u64 = 40_000;
 
-/// What the threads of a run share.
+/// The values that the threads of a run share.
 #[derive(Drop)]
 struct Shared<L: LinkBrand> {
     stage: Stage<Tape, L>,
@@ -156,7 +156,7 @@ fn offers_alone<T: Abort + Wait, L: LinkBrand>(
     }
 }
 
-// Waits until so many packets were sent, or the run takes too long.
+// Waits until that many packets were sent, or the run takes too long.
 fn while_unsent<T: Wait, L: LinkBrand>(rt: &T, shared: &Shared<L>, wanted: u64) {
     for _ in rt.forever() {
         if written(rt, shared) >= wanted || shared.is_late.is_set() {
@@ -166,7 +166,7 @@ fn while_unsent<T: Wait, L: LinkBrand>(rt: &T, shared: &Shared<L>, wanted: u64) 
     }
 }
 
-// What the workers of a run do.
+// The duties of the workers of a run.
 #[derive(Clone, Copy, Debug, PartialEq, Eq)]
 enum Load {
     Together,

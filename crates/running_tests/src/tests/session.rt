@@ -60,7 +60,7 @@ fn command_of(rt: &impl Abort, alloc: Global, line: &str) -> Command {
     }
 }
 
-// A clerk that had so many receipts has one more, of this command, unless that was no event.
+// A clerk that had that many receipts has one more, of this command, unless that was no event.
 fn keeps<L: LinkBrand>(
     rt: &impl Abort,
     clerk: &Clerk<L>,
@@ -98,7 +98,7 @@ impl<'a, T: Abort + Wait, W: TellingWriter, L: LinkBrand> Session<'a, T, W, L> {
         }
     }
 
-    /// What was answered last.
+    /// The last answer.
     pub(super) fn text(&self) -> &str {
         let text = from_utf8(self.said.0.as_slice()).ok();
         text.expect(self.rt, "text").trim_end()
@@ -196,7 +196,7 @@ impl<'a, T: Abort + Wait, W: TellingWriter, L: LinkBrand> Session<'a, T, W, L> {
         self.stage.port.lock(self.rt).recorder().journal().len()
     }
 
-    // Waits until so many entries are in the journal.
+    // Waits until that many entries are in the journal.
     fn comes(&self, entries: u64) {
         let parker = Parker::new();
         for _look in 0..LOOKS {

@@ -19,7 +19,7 @@ use std::marker::{Model, PhantomData};
 use std::process::Abort;
 use std::sync::{Mutex, Wait};
 
-/// What a new link is made of: an empty recorder, and a queue of which nothing was taken. A contract sees the name of
+/// The parts of a new link: an empty recorder, and a queue of which nothing was taken. A contract sees the name of
 /// the queue.
 #[derive(Drop)]
 pub(super) struct NewLink<W: TellingWriter> {
@@ -45,7 +45,7 @@ impl<W: TellingWriter> Model for NewLink<W> {
         × Each (λ e. e.link ≡ n.intake.link) n.ends.items };
 }
 
-/// A new link of version 2 with this life, over a writer that has accepted nothing and a queue of so many places.
+/// A new link of version 2 with this life, over a writer that has accepted nothing and a queue of that many places.
 pub(super) fn new_link<W: TellingWriter + Drop>(
     rt: &impl Abort,
     alloc: Global,
@@ -161,7 +161,7 @@ fn clerk_of<W: TellingWriter, L: LinkBrand>(
     Mutex::new(clerk)
 }
 
-/// A new link with so many clerks, numbered from 1. It and they are made without memory.
+/// A new link with that many clerks, numbered from 1. It and they are made without memory.
 pub(super) fn staged<W: TellingWriter + Drop, L: LinkBrand>(
     rt: &impl Abort,
     alloc: Global,
@@ -193,7 +193,7 @@ pub(super) fn staged<W: TellingWriter + Drop, L: LinkBrand>(
     }
 }
 
-/// What is left out of a settling.
+/// The part that a settling leaves out.
 #[derive(Clone, Copy, Debug, PartialEq, Eq)]
 pub(super) enum Without {
     Nothing,
@@ -285,7 +285,7 @@ pub(super) fn unsettled<W: TellingWriter + Drop, L: LinkBrand>(
     }
 }
 
-/// What the books of a settled link come to: the tallies, the arrivals, the commands and the entries.
+/// The figures of the books of a settled link: the tallies, the arrivals, the commands and the entries.
 pub(super) type Books<'a> = (&'a [u64], u64, u64, u64);
 
 /// The link is settled, with these books, by one request for memory.

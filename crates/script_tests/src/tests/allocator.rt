@@ -38,7 +38,7 @@ pub(super) fn takes_none<R: Debug + Copy>(rt: &impl Abort, row: R, alloc: Global
     same(rt, (row, "is steered"), was_refused(alloc), is_refused);
 }
 
-/// No more than so many bytes were asked for since the mark.
+/// At most that many bytes were asked for since the mark.
 pub(super) fn asks_for_few<R: Debug + Copy>(rt: &impl Abort, row: R, alloc: Global, bytes: u16) {
     let is_more = asks!(alloc, LONGER.saturating_add(bytes));
     holds(rt, (row, "asks for no more"), !is_more);

@@ -74,7 +74,7 @@ const WRITTEN_2: Line = (
     ],
 );
 
-// What this beginning of a line is answered, and the line of the bytes.
+// The answer to this beginning of a line, and the line of the bytes.
 fn cut_at(cuts: &[Cut], count: usize) -> (&'static [u8], &'static [u8]) {
     let mut last = (if count == 0 { NOTHING } else { NO_LINE }, NONE);
     for (from, answer, bytes) in cuts {
@@ -89,7 +89,7 @@ fn push(rt: &impl Abort, text: &mut Vec<u8>, piece: &[u8]) {
     text.extend_from_slice(piece).expect(rt, "memory");
 }
 
-// Cuts the line that comes after these, of which the answers are these, at each of its bytes. What is left is a script:
+// Cuts the line that comes after these, of which the answers are these, at each of its bytes. The rest is a script:
 // its last line has no line feed, and may be another line than was meant.
 fn line_is_cut(rt: &impl Abort, alloc: Global, before: &[u8], answers: &[u8], line: &Line) {
     let (line, cuts) = *line;
@@ -164,7 +164,7 @@ pub(super) fn linewise<'a>(rt: &impl Abort, alloc: Global, script: &'a [u8]) -> 
     ScriptedReader::new(reads, script)
 }
 
-// Where the output gives these answers, it refuses an offer, and these bytes are printed.
+// If the output gives these answers, it refuses an offer, and these bytes are printed.
 fn output_fails<I: TellingReader>(
     rt: &impl Abort,
     alloc: Global,
@@ -180,7 +180,7 @@ fn output_fails<I: TellingReader>(
     drop(output);
 }
 
-// So many offers are accepted, of the first of which `first` bytes at most, and the next is answered so.
+// That many offers are accepted, of the first of which `first` bytes at most, and the next is answered so.
 fn accepting(
     rt: &impl Abort,
     alloc: Global,
@@ -200,7 +200,7 @@ fn accepting(
 /// The answers by which an offer is refused.
 const REFUSALS: [Answer; 3] = [Answer::Failed, Answer::Interrupted, Answer::Accepted(0)];
 
-/// What is printed before each offer to which the answers to the lines of one read go together.
+/// The text that is printed before each offer to which the answers to the lines of one read go together.
 const OF_ONE_READ: [&[u8]; 5] = [
     b"",
     b"idl",
@@ -209,7 +209,7 @@ const OF_ONE_READ: [&[u8]; 5] = [
     b"idle\nno 3 Syntax\nout -",
 ];
 
-/// How many bytes of the output are printed before each offer, where the script of one packet is read by the line: one
+/// How many bytes of the output are printed before each offer, if the script of one packet is read by the line: one
 /// offer for the answer to each line, and three for the line of the bytes.
 const BEFORE_OFFERS: [usize; 8] = [0, 7, 16, 19, 30, 49, 53, 81];
 
@@ -231,7 +231,7 @@ fn output_that_refuses_an_offer(rt: HostRuntime) {
     }
 }
 
-// The output, which is offered again where it was interrupted, gives these answers. All is printed, by so many offers.
+// The output, which is offered again if it was interrupted, gives these answers. All is printed, by that many offers.
 fn all_is_printed(rt: &impl Abort, alloc: Global, answers: Vec<Answer>, offers: usize) {
     let mut input = linewise(rt, alloc, ONE_PACKET);
     let mut output = PatientWriter(Scripted::new(alloc, answers));
@@ -262,7 +262,7 @@ fn output_that_takes_less(rt: HostRuntime) {
     all_is_printed(&rt, alloc, bytewise, 82);
 }
 
-/// What the lines `torn`, `report` and `none` print on a new link.
+/// The output of the lines `torn`, `report` and `none` on a new link.
 const BETWEEN_ANSWERS: &[u8] = b"idle\n\
     clock                            0\n\
     accepted                         0\n\
@@ -278,7 +278,7 @@ const BETWEEN_ANSWERS: &[u8] = b"idle\n\
     end\n\
     no 3 Syntax\n";
 
-// The first answer, the report and the last answer are offered one after the other. So many bytes are accepted.
+// The first answer, the report and the last answer are offered one after the other. That many bytes are accepted.
 fn accepting_bytes(rt: &impl Abort, alloc: Global, length: usize) -> Vec<Answer> {
     let mut answers = Vec::new(alloc);
     let mut left = length;

@@ -39,7 +39,7 @@ fn bytewise(rt: &impl Abort, alloc: Global, accepted: usize, last: Answer) -> Sc
     Scripted::new(alloc, answers)
 }
 
-// Whatever byte of it is refused, all that comes before goes out.
+// If a byte of it is refused, all bytes before it go out.
 fn is_cut_at_each(rt: &impl Abort, alloc: Global, line: &Line, text: &[u8]) {
     for fault in [Answer::Failed, Answer::Interrupted, Answer::Accepted(0)] {
         for accepted in 0..=text.len() {
@@ -81,7 +81,7 @@ fn lines_are_read_and_written(rt: HostRuntime) {
     }
 }
 
-/// What comes next of a connection.
+/// The next thing of a connection.
 #[derive(Drop)]
 enum Want<'a> {
     Line(&'a [u8]),
@@ -140,7 +140,7 @@ fn wanted<'a>(line: &'a [u8]) -> [Want<'a>; 23] {
     ]
 }
 
-/// What the reads give.
+/// The bytes that the reads give.
 const READS: [Got; 12] = [
     Got::Bytes(11),
     Got::Interrupted,

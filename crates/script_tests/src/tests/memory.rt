@@ -25,8 +25,8 @@ use std::str::from_utf8;
 /// A packet of 17 bytes, the fewest for which a line takes memory.
 const LONG: &str = "send a 6162636465666768696a6b6c6d6e6f7071";
 
-/// Packets of more than 16 bytes, why they are refused where no memory is found, and why with ample memory. What spells
-/// no packet is told before want of memory.
+/// Packets of more than 16 bytes, why they are refused if no memory is found, and why with ample memory. What spells
+/// no packet is reported before lack of memory.
 const LONG_LINES: [(&str, Refusal, Option<Refusal>); 3] = [
     (LONG, Refusal::NoMemory, None),
     (
@@ -46,7 +46,7 @@ const SHORT_LINES: &str = "\
     send a 6162636465666768696a6b6c6d6e6f70|mkcur x|rmcur x|mktkt 10 base|rmtkt 1|fund 1 cur x|fund 1 flow a|\
     unfund 1|open a 4 1|close a|hold a|resume a|amend 1 2|turn 65535|torn|report|audit 1|audit 2";
 
-// Why a line is refused where each request for memory is, and whether one was.
+// Why a line is refused if each request for memory is, and whether one was.
 fn read_without(alloc: Global, version: Version, line: &[u8]) -> (Option<Refusal>, bool) {
     refuse_each(alloc);
     let read = read_line(alloc, version, line);
@@ -110,8 +110,8 @@ fn is_read_at_last(rt: &impl Abort, alloc: Global, version: Version, line: &[u8]
     panic!(rt; "there is none for good");
 }
 
-/// Lines that send so many zero bytes and end so, and why they are refused. Memory that is taken for one is given back
-/// with it, and it is for a header and a byte of each pair of digits alone.
+/// Lines that send that many zero bytes and end so, and why they are refused. Memory that is taken for one is given
+/// back with it, and it is for a header and a byte of each pair of digits alone.
 const ENDS: [(usize, &[u8], Option<Refusal>); 4] = [
     (9000, b"", None),
     (9000, b"0", Some(Refusal::Syntax)),
@@ -155,7 +155,7 @@ fn writes(line: &Line, output: &mut Printed) -> bool {
         && print_bytes(output, b"hi").is_ok()
 }
 
-/// What they write.
+/// The lines that they write.
 const WRITTEN: &[u8] =
     b"send a 6162636465666768696a6b6c6d6e6f7071\nturn 5\nno 7 NoFlow\nidle\nout 6869\n";
 

@@ -108,12 +108,12 @@ fn reports_show_links(rt: HostRuntime) {
     }
 }
 
-// Whether this is a beginning of the report of so many bytes.
+// Whether this is a beginning of the report of that many bytes.
 fn is_beginning(bytes: &[u8], count: usize) -> bool {
     Some(bytes) == TORN_SHOWS.as_bytes().get(..count)
 }
 
-// A writer with these answers has so many bytes of the report when it ends so.
+// A writer with these answers has that many bytes of the report when it ends so.
 fn is_cut(
     rt: &impl Abort,
     alloc: Global,
@@ -130,8 +130,8 @@ fn is_cut(
     drop(writer);
 }
 
-// A writer that takes so many bytes, at once or one a call, and then refuses an offer, ends the report. One that takes
-// a part has the rest in another call.
+// A writer that takes that many bytes, at once or one a call, and then refuses an offer, ends the report. One that
+// takes a part has the rest in another call.
 fn is_cut_at(rt: &impl Abort, alloc: Global, link: &Engine<Tape, Four>, count: usize) {
     for last in [Answer::Failed, Answer::Interrupted, Answer::Accepted(0)] {
         let mut bytewise = vec![in alloc; Answer::Accepted(1); count].expect(rt, "memory");

@@ -15,7 +15,7 @@ use std::str::from_utf8;
 pub(super) const ONE_PACKET: &[u8] =
     b"open a 4 1\nmktkt 10 base\nfund 1 flow a\nsend a 6869\nturn 65535\n";
 
-/// What it prints.
+/// The output of the script.
 pub(super) const ITS_OUTPUT: &[u8] = b"flow 1\nticket 1\nok\npacket 1 1\nwrote 1 1 14 whole\n\
     out 4c01000000010000000100026869\n";
 
@@ -84,7 +84,7 @@ pub(super) fn is_answered(rt: &impl Abort, alloc: Global, script: &[u8], wanted:
     }
 }
 
-/// This text, a line that sends so many zero bytes, and another text.
+/// This text, a line that sends that many zero bytes, and another text.
 pub(super) fn with_zeros(
     rt: &impl Abort,
     alloc: Global,
@@ -100,7 +100,7 @@ pub(super) fn with_zeros(
     text
 }
 
-/// Lines that send so many zero bytes, and what they are answered before a currency is made. Of each version the line
+/// Lines that send that many zero bytes, and their answers before a currency is made. Of each version the line
 /// before the last has 20480 bytes, and the last 20481.
 const LONG_LINES: [(&[u8], usize, &[u8]); 8] = [
     (b"send a ", 1490, b"no 7 NoFlow\nok\nout -\n"),

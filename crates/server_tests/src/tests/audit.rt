@@ -172,12 +172,12 @@ const BLOCKED: Taken = Taken::Error(ErrorKind::WouldBlock);
 
 const INTERRUPTED: Taken = Taken::Error(ErrorKind::Interrupted);
 
-/// Answers of write calls in turn, whether files can be renamed, whether the audit is told as written, and what is then
-/// in a file that is written in place, which is not renamed. What a refused call leaves is offered once more when the
-/// file is closed, so a call that stays refused is refused twice.
+/// Answers of write calls in turn, whether files can be renamed, whether the audit is reported as written, and what
+/// is then in a file that is written in place, which is not renamed. The rest after a refused call is offered once
+/// more when the file is closed, so a call that stays refused is refused twice.
 type Row = (&'static [Taken], bool, bool, &'static str);
 
-/// What comes of the audit of an empty journal, which goes out in one call.
+/// The outcome of the audit of an empty journal, which goes out in one call.
 const WRITES: [Row; 14] = [
     (&[], true, true, AUDIT),
     (&[Taken::Most(1)], true, true, AUDIT),
@@ -210,7 +210,7 @@ const WRITES: [Row; 14] = [
     (&[Taken::Most(3)], false, false, AUDIT),
 ];
 
-/// What comes of an audit that goes out in several calls. Its row is the only one, since it takes long.
+/// The outcome of an audit that goes out in several calls. Its row is the only one, since it takes long.
 const LONG_WRITES: [Row; 1] = [(&[Taken::Most(5), FULL, FULL], true, false, "audit")];
 
 /// How many commands a journal holds whose audit goes out in several calls: 72008 bytes, of which 65536 go together.
@@ -233,7 +233,7 @@ fn long_journal(rt: &impl Abort, alloc: Global) -> Journal {
     journal
 }
 
-// Whether an audit is told as written where write calls have these answers, and files may not be renamed.
+// Whether an audit is reported as written if write calls have these answers, and files may not be renamed.
 fn is_told<R: Files + Eprint + Abort>(
     rt: &R,
     alloc: Global,
@@ -253,8 +253,8 @@ fn is_told<R: Files + Eprint + Abort>(
     audit.keep(journal)
 }
 
-// Checks that the audit of a faulty write is told as not written, and that what was there before stays as it was. One
-// that cannot take its name stays beside it.
+// Checks that the audit of a faulty write is reported as not written, and that what was there before stays as it
+// was. One that cannot take its name stays beside it.
 fn faults_leave_the_old<R: Files + Eprint + Abort>(
     rt: &R,
     alloc: Global,

@@ -22,7 +22,7 @@ use std::test::Fail;
 /// A life that is not spent.
 const LIFE: u64 = 100;
 
-/// What comes on a connection, with a bar after what one read gives, and two bars where a read is interrupted; what is
+/// The bytes of a connection, with a bar after what one read gives, and two bars if a read is interrupted; what is
 /// written, with a bar after what one write call takes; and how many commands are made.
 const CONVERSATIONS: [(&[u8], &[u8], usize); 12] = [
     (b"", b"", 0),
@@ -72,7 +72,7 @@ const CONVERSATIONS: [(&[u8], &[u8], usize); 12] = [
 const SESSION: &[u8] =
     b"open a 4 1\nmktkt 1 base\nfund 1 flow a\nturn 1\nmkcur x\nmkcur x\nclose a\n";
 
-/// What is answered, and how many commands are made, if so many bytes of the session come: at least the first number,
+/// The answers, and how many commands are made, if that many bytes of the session come: at least the first number,
 /// and fewer than the second.
 const CUTS: [(usize, usize, &[u8], usize); 8] = [
     (0, 11, b"", 0),
@@ -120,8 +120,8 @@ const BLOCKED: Taken = Taken::Error(ErrorKind::WouldBlock);
 const INTERRUPTED: Taken = Taken::Error(ErrorKind::Interrupted);
 
 /// Lines, the answers of write calls in turn, what is written, how the connection ends, and how many commands are made.
-/// What a refused call leaves is offered once more when the connection is dropped, so a call that stays refused is
-/// refused twice.
+/// An offer that a refused call left is offered once more when the connection is dropped, so a call that stays
+/// refused is refused twice.
 const WRITES: [(&[u8], &[Taken], &[u8], How, usize); 20] = [
     (APART, &[BROKEN, BROKEN], b"", How::WriteFault, 1),
     (APART, &[RESET, RESET], b"", How::WriteFault, 1),
@@ -218,7 +218,7 @@ const WRITES: [(&[u8], &[Taken], &[u8], How, usize); 20] = [
         How::WriteFault,
         1,
     ),
-    // What is left goes out when the connection is dropped, and what was taken does not go out again.
+    // The rest goes out when the connection is dropped, and what was taken does not go out again.
     (
         APART,
         &[Taken::Most(3), BROKEN],
@@ -312,7 +312,7 @@ impl<'a, S: Rates, L: LinkBrand> Write for Barred<'a, S, L> {
     }
 }
 
-/// What comes on a connection, how much of it a read gives at most, whether the last read fails, and the answers of
+/// The bytes of a connection, how much of it a read gives at most, whether the last read fails, and the answers of
 /// write calls.
 #[derive(Clone, Copy)]
 struct Asked<'a> {
@@ -399,7 +399,7 @@ where
     (how, receipts)
 }
 
-// What a link counted and holds.
+// The counts and the contents of a link.
 fn totals_of<T: Wait, S: Rates, L: LinkBrand>(rt: &T, port: &Port<Tape, S, L>) -> Totals {
     port.lock(rt).recorder().engine().totals()
 }
@@ -638,7 +638,7 @@ fn spent_lives_are_told<T: Wait + Abort, S: Rates + Copy>(
     Ok(())
 }
 
-// Checks that no answer is written in a hold of the lock, even if lines that came together have more answers than may
+// Checks that no answer is written under the lock, even if lines that came together have more answers than may
 // wait.
 fn answers_are_written_outside_of_holds<T: Wait + Abort, S: Rates + Copy>(
     rt: &T,

@@ -1,7 +1,8 @@
-//! The text of each fault of the server.
+//! The text of each fault of the server, and of its reason.
 
-use share_server::ServeFault;
+use share_server::{Reason, RunFault, ServeFault};
 use std::alloc::Global;
+use std::io::{Error, ErrorKind};
 
 /// Each fault, and its text.
 const FAULTS: [(ServeFault, &str); 10] = [
@@ -17,8 +18,23 @@ const FAULTS: [(ServeFault, &str); 10] = [
     (ServeFault::Output, "cannot write the output"),
 ];
 
+/// Faults with the system's number of an error, and their texts. Number 24 has no kind, so its text is the system's.
+const NUMBERED: [(ServeFault, i32, &str); 3] = [
+    (
+        ServeFault::Accept,
+        24,
+        "cannot accept a connection: Too many open files (os error 24)",
+    ),
+    (
+        ServeFault::Uplink,
+        104,
+        "the uplink failed: connection reset",
+    ),
+    (ServeFault::Uplink, 32, "the uplink failed: broken pipe"),
+];
+
 // Whether the fault is shown by this text.
-fn is_shown(alloc: Global, fault: ServeFault, text: &str) -> bool {
+fn is_shown(alloc: Global, fault: RunFault, text: &str) -> bool {
     match fault.to_string(alloc) {
         Ok(shown) => shown.as_bytes() == text.as_bytes(),
         Err(_) => false,
@@ -27,7 +43,26 @@ fn is_shown(alloc: Global, fault: ServeFault, text: &str) -> bool {
 
 #[test]
 fn faults_have_their_texts(rt: HostRuntime) {
-    for (fault, text) in FAULTS {
-        assert!(rt; is_shown(rt.alloc(), fault, text), "{text}");
+    for (kind, text) in FAULTS {
+        assert!(rt; is_shown(rt.alloc(), RunFault::from(kind), text), "{text}");
     }
+}
+
+#[test]
+fn faults_have_their_reasons(rt: HostRuntime) {
+    for (kind, number, text) in NUMBERED {
+        let reason = Some(Reason(Error::from_raw_os_error(number)));
+        assert!(rt;
+            is_shown(rt.alloc(), RunFault { kind, reason }, text),
+            "{text}"
+        );
+    }
+    let late = RunFault {
+        kind: ServeFault::Uplink,
+        reason: Some(Reason(Error::from(ErrorKind::TimedOut))),
+    };
+    assert!(rt;
+        is_shown(rt.alloc(), late, "the uplink failed: timed out"),
+        "an uplink that is ended"
+    );
 }

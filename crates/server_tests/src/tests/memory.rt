@@ -53,7 +53,8 @@ where
         until,
         keep,
         &mut report,
-    );
+    )
+    .map_err(|fault| fault.kind);
     let was_refused = asks!(alloc, WAS_REFUSED);
     let is_silent = audit.bytes().is_empty() && report.bytes().is_empty();
     drop(peer);

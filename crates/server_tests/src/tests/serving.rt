@@ -48,7 +48,7 @@ const AUDIT: &str = "audit 2\nopen a 4 1\nmktkt 1 base\nfund 1 flow a\nsend a 61
 
 const AUDIT_BEGINS: &str = "audit 2\nopen a 4 1\nmktkt 1 base\nfund 1 flow a\nsend a 61";
 
-/// How many bytes the report of a link with one flow has, and at which of them it tells the state of the link.
+/// How many bytes the report of a link with one flow has, and at which of them it has the state of the link.
 const REPORT: usize = 482;
 
 const LINK: usize = 383;
@@ -390,7 +390,7 @@ where
     (sockets, clients)
 }
 
-// What is told at the end.
+// The message at the end.
 fn wanted(play: Play) -> Result<(), ServeFault> {
     if play == Play::Torn {
         Err(ServeFault::Uplink)
@@ -428,6 +428,7 @@ where
     serve_on(
         rt, alloc, shelf, journal, sockets, PLAN, until, keep, report,
     )
+    .map_err(|fault| fault.kind)
 }
 
 fn is_served<T, S, A>(rt: &T, alloc: Global, shelf: S, again: A, play: Play)
@@ -461,7 +462,7 @@ where
     drop(report);
 }
 
-// A journal of version 1 is none of a link that is served, and nothing is kept or shown.
+// A served link has no journal of version 1, and nothing is kept or shown.
 fn is_refused<T, S>(rt: &T, alloc: Global, shelf: S)
 where
     T: Net<Listener = TcpListener, Stream = TcpStream>
@@ -559,7 +560,7 @@ where
         OfWorkers,
         &mut report,
     );
-    assert!(rt; served == Ok(()), "two connections: {served:?}");
+    assert!(rt; served.is_ok(), "two connections: {served:?}");
     assert!(rt;
         clients.join(rt),
         "the clients and the peer got what they should"

@@ -30,7 +30,7 @@ const LIFE: u64 = 65536;
 /// More requests for memory than the start of a thread makes.
 const REQUESTS: u16 = 64;
 
-/// Notes that the link takes nothing any more.
+/// Notes that the link has stopped taking offers.
 #[derive(Drop)]
 struct Heard {
     has_ended: Stop,
@@ -126,7 +126,7 @@ fn a_stop_leaves_no_offer(rt: HostRuntime) {
     leaves_no_offer::<HostRuntime, ByByte, Brand>(&rt, alloc, recorder, intake, end);
 }
 
-// What is heard of a link whose thread may be refused, before the work that it is to be served for.
+// The reports of a link whose thread may be refused, before the work that it is to be served for.
 #[derive(Clone, Copy, Debug, PartialEq, Eq)]
 struct Seen {
     is_served: bool,

@@ -18,7 +18,7 @@ use share_model::{Line, Rates};
 /// More bytes than a frame has.
 const WHOLE: u32 = 65535;
 
-/// What a line made that a bill keeps.
+/// The part of a line's effect that a bill keeps.
 #[derive(Clone, Copy, Debug)]
 pub(super) enum Made {
     /// A flow of this name was opened.
@@ -87,7 +87,7 @@ fn is_lack(reply: &Reply) -> bool
     matches!(reply, Reply::Refused(Refusal::NoMemory))
 }
 
-// What a bill keeps of an answered command.
+// The part of an answered command that a bill keeps.
 fn made_by(command: &Command, reply: &Reply) -> Made
     ensures { result ≡ made_by command.now reply.now }
 {
@@ -124,7 +124,7 @@ fn take<S: Rates>(
     taken_as(&reply)
 }
 
-// What comes of a packet, by its answer.
+// The part of a packet that a bill keeps, by its answer.
 fn taken_as(reply: &Reply) -> Result<Made, LineFault>
     ensures { result ≡ taken_as reply.now }
 {

@@ -3,13 +3,13 @@ ghost use Rattle.std.specs.Prelude.{◌≡◌, None, Some, IfOk, MatchOption};
 ghost use Rattle.share_bill.specs.BookLines.{book_reading, after_send, packet_of, ReadsOrLacks, IsUnstampedLine};
 
 use super::Kind;
-use share_base::{Body, HEADER_ROOM, MAX_PAYLOAD, Name, Refusal, Version};
+use share_base::{Body, MAX_PAYLOAD, Name, Refusal, Version};
 use share_model::Line;
 use share_script::{read_length, read_line};
 use std::alloc::Global;
 
-/// The line that these bytes, without a line feed, spell in a book of a kind. Of a packet of which the length alone is
-/// spelled the payload is that many zeros. `Syntax` if they spell none, `Range` if a number or a length is out of
+/// The line that these bytes, without a line feed, spell in a book of a kind. A packet of which the length alone is
+/// spelled has a payload of that many zeros. `Syntax` if they spell none, `Range` if a number or a length is out of
 /// range, `NoMemory` if memory for a payload was refused.
 pub(super) fn read(alloc: Global, kind: Kind, bytes: &[u8]) -> Result<Line, Refusal>
     ensures reads { ReadsOrLacks (book_reading kind bytes.now) result }
@@ -35,7 +35,7 @@ fn read_measured(alloc: Global, bytes: &[u8]) -> Result<Line, Refusal>
     }
 }
 
-// The bytes behind the keyword of a packet and a space.
+// The bytes after the keyword of a packet and a space.
 fn after_send(line: &[u8]) -> Option<&[u8]>
     ensures { MatchOption result (after_send line.now ≡ None) (λ rest. after_send line.now ≡ Some rest.now) }
 {
@@ -46,17 +46,16 @@ fn after_send(line: &[u8]) -> Option<&[u8]>
     }
 }
 
-// A packet of this many zeros.
+// A packet of this many zeros. It takes no memory.
 fn packet(alloc: Global, flow: Name, count: u64) -> Result<Line, Refusal>
-    ensures reads { ReadsOrLacks (packet_of flow count) result }
+    ensures reads { result ≡ packet_of flow count }
     ensures unstamped { IfOk result IsUnstampedLine }
 {
     if count < 1 || count > MAX_PAYLOAD as u64 {
         return Err(Refusal::Range);
     }
-    let bytes = vec![in alloc; 0u8; HEADER_ROOM + count as usize]?;
     Ok(Line::Send {
         flow,
-        body: Body::from_vec(bytes),
+        body: Body::zeros(alloc, count as usize),
     })
 }

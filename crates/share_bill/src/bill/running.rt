@@ -22,7 +22,7 @@ use share_model::{Line, Rates};
 use std::alloc::{AllocError, Global};
 use std::marker::Model;
 
-/// What a tenant sent, by a book.
+/// The traffic of a tenant in a book.
 #[derive(Clone, Copy, Debug)]
 pub struct TenantBill {
     pub name: Name,
@@ -117,7 +117,7 @@ impl<S: Rates> Bill<S> {
         self.kind
     }
 
-    /// What each tenant sent, in the order in which their flows were opened.
+    /// The traffic of each tenant, in the order in which their flows were opened.
     pub fn rows(&self, alloc: Global) -> Result<Vec<TenantBill>, AllocError>
         ensures { IfOk result (λ rows. rows.items
             ≡ map (λ t. row_with t (sums_at self.now.sent t.flow)) self.now.tenants) }
@@ -153,7 +153,7 @@ fn is_memory(refusal: &Refusal) -> bool
     matches!(refusal, Refusal::NoMemory)
 }
 
-// What is wrong with bytes that are no line.
+// The fault of bytes that are not a line.
 fn unread(refusal: Refusal) -> LineFault
     ensures { result ≡ unread refusal }
 {
@@ -164,7 +164,7 @@ fn unread(refusal: Refusal) -> LineFault
     }
 }
 
-// What these tenants sent.
+// The traffic of these tenants.
 fn rows_of(
     alloc: Global,
     tenants: &[TenantFlow],

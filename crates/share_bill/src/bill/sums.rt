@@ -1,4 +1,4 @@
-//! What each flow of a book sent.
+//! The traffic of each flow of a book.
 ghost use Rattle.std.specs.Prelude.{◌≡◌, ◌<◌, ◌≤◌, ◌*◌, ◌^◌, [], ℕ, IfOk, IfErr, OnOk, length, nat_eq, if◌then◌else◌};
 ghost use Rattle.share_bill.specs.Sums.{sums_at, one_more, IsSmall, AreSmall};
 ghost use Rattle.share_bill.specs.declared.bill.line.LineFault.TheVariants.{NoMemory};
@@ -9,7 +9,7 @@ use share_core::MAX_LIFE;
 use std::alloc::{AllocError, Global};
 use std::marker::Model;
 
-/// What was sent: frames, their bytes, the units that these were charged, and what the units cost.
+/// Traffic: frames, their bytes, the units that these were charged, and what the units cost.
 #[derive(Clone, Copy, Debug, PartialEq, Eq)]
 pub struct Sums {
     pub packets: u64,
@@ -26,7 +26,7 @@ const NOTHING: Sums = Sums {
     amount: 0,
 };
 
-/// What each flow sent, by its number. A contract sees the list up to the greatest flow that sent something.
+/// The traffic of each flow, by its number. A contract sees the list up to the greatest flow that sent something.
 #[derive(Drop)]
 pub(super) struct Sent {
     entries: Vec<Sums>,
@@ -54,7 +54,7 @@ impl Sent {
         }
     }
 
-    /// What a flow sent.
+    /// The traffic of a flow.
     pub(super) fn of(&self, flow: FlowNo) -> Sums
         ensures { result ≡ sums_at self.now flow }
     {
@@ -86,7 +86,7 @@ impl Sent {
     }
 }
 
-// What the flow of a number sent.
+// The traffic of the flow of a number.
 fn sums_at(entries: &[Sums], at: usize) -> Sums
     ensures value { result ≡ sums_at entries.now at }
     ensures small { AreSmall entries.now → IsSmall result }

@@ -22,7 +22,7 @@ const MAX_READS: u64 = 1 << 32;
 #[derive(Drop)]
 pub struct BookBill {
     pub kind: Kind,
-    /// What each tenant sent, in the order in which their flows were opened.
+    /// The traffic of each tenant, in the order in which their flows were opened.
     pub rows: Vec<TenantBill>,
     /// The number of the last line, counted from 1, if it has no line feed: it is left out.
     pub cut: Option<u64>,
@@ -68,7 +68,7 @@ impl Display for NotBilled {
     }
 }
 
-// What comes next of a text.
+// The next line of a text.
 #[derive(Clone, Copy, Debug, PartialEq, Eq)]
 enum Next {
     Line,
@@ -77,7 +77,7 @@ enum Next {
     Failed,
 }
 
-// The next line if it is here, or else one read: what comes next, if this shows it.
+// The next line if it is here, and otherwise one read: what comes next, if this shows it.
 fn advance<I: TellingReader + Drop>(lines: &mut IncomingLines<I>) -> Option<Next>
     ensures { (first : I) (passed : List ℕ) (n : ℕ) → HasReadAt I.left I.gives first n passed lines.old
         → MatchOption result (HasReadAt I.left I.gives first (n + 1) passed lines.new)
@@ -242,9 +242,9 @@ fn bill_of<S: Rates>(alloc: Global, run: &TextRun<S>) -> Result<BookBill, NotBil
     })
 }
 
-/// The bill of a book, by its text, read line by line. The lines of the text are those of a run of the engine, the rows
-/// those of this run, and bytes after the last line feed are left out. Otherwise the first line that is no such line is
-/// named, with what is wrong with it.
+/// The bill of a book, by its text, read line by line. The lines of the text are those of a run of the engine, and the
+/// rows are those of this run. Bytes after the last line feed are left out. Otherwise the first line that is no such
+/// line is named, with what is wrong with it.
 pub fn bill_text<S: Rates + Drop, I: TellingReader + Drop>(
     alloc: Global,
     shelf: S,

@@ -7,7 +7,7 @@ use super::TenantBill;
 use share_base::Name;
 use std::alloc::{AllocError, Global};
 
-/// What was sent, by any number of books. No figure exceeds 2^128 - 1.
+/// Traffic in any number of books. No figure exceeds 2^128 - 1.
 #[derive(Clone, Copy, Debug, PartialEq, Eq)]
 pub struct Figures {
     pub packets: u128,
@@ -16,7 +16,7 @@ pub struct Figures {
     pub amount: u128,
 }
 
-/// What a tenant sent, by any number of books.
+/// The traffic of a tenant in any number of books.
 #[derive(Clone, Copy, Debug)]
 pub struct TenantTotal {
     pub name: Name,
@@ -88,7 +88,7 @@ fn add_row(totals: &mut Vec<TenantTotal>, row: &TenantBill) -> Result<(), AllocE
     Ok(())
 }
 
-// What a tenant sent whose first row this is.
+// The traffic of a tenant whose first row this is.
 fn first_total(row: &TenantBill) -> TenantTotal
     ensures { result ≡ record { name = row.now.name; sent = plus_row no_figures row.now } }
 {

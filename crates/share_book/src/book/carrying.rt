@@ -13,7 +13,7 @@ use share_base::{FlowNo, Name};
 use share_gateway::Tenant;
 use share_model::Rates;
 
-/// What a book answers to a call that carries packets over.
+/// The answer of a book to a call that carries packets over.
 #[derive(Clone, Copy, Debug, PartialEq, Eq)]
 pub enum Carried {
     /// The text has no room for the longest line: when some of it was drained, packets are left to carry.

@@ -1,4 +1,4 @@
-//! What control lines change.
+//! The effects of control lines.
 ghost use Rattle.std.specs.Prelude.{◌≡◌, false, true};
 ghost use Rattle.share_base.specs.declared.command.Command.TheVariants.{Hold, Resume};
 ghost use Rattle.share_book.specs.Audited.{lacks_text};

@@ -1,4 +1,4 @@
-//! What is left of a book that was closed.
+//! The rest of a book that was closed.
 ghost use Rattle.std.specs.Prelude.{◌≡◌};
 ghost use Rattle.share_model.specs.link.Buffers.{count_in};
 ghost use Rattle.share_book.specs.Closed.{closed_of};
@@ -43,7 +43,7 @@ impl Model for Closed {
 }
 
 impl Closed {
-    /// What of the text was not drained.
+    /// The text that was not drained.
     pub fn text(&self) -> &[u8]
         ensures { result.now ≡ self.now.text }
     {
@@ -57,7 +57,7 @@ impl Closed {
         &self.plan
     }
 
-    /// What the book counted, and what it held when it was closed.
+    /// The counts of the book, and its contents when it was closed.
     pub fn totals(&self) -> Totals
         ensures { result ≡ self.now.totals }
     {

@@ -26,7 +26,7 @@ impl<S: Rates> Model for NewBook<S> {
 }
 
 impl<S: Rates> NewBook<S> {
-    /// What of the text was not drained.
+    /// The text that was not drained.
     pub fn text(&self) -> &[u8]
         ensures { result.now ≡ self.now.audited.text.bytes }
     {
@@ -41,7 +41,7 @@ impl<S: Rates> NewBook<S> {
         self.book.drained(count);
     }
 
-    /// The book begins: packets are taken and turns are made, and nothing is carried over any more.
+    /// The book begins: packets are taken and turns are made, and no more packets are carried over.
     pub fn begin(self) -> Book<S>
         ensures { result ≡ self }
     {

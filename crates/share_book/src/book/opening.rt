@@ -13,12 +13,12 @@ use share_model::Rates;
 use share_script::spelled_command;
 use std::alloc::{AllocError, Global};
 
-/// How many bytes of text have room behind those of the opening.
+/// How many bytes of text have room after those of the opening.
 pub const TEXT_ROOM: usize = 262144;
 
 impl<S: Rates + Drop> Book<S> {
     /// A new book over a plan, with a life of this many events and a text of this kind: the plan's opening is made on a
-    /// new engine. Otherwise, in this order: `Range` if the events are not 131072 to 2^24; `NoMemory` where memory was
+    /// new engine. Otherwise, in this order: `Range` if the events are not 131072 to 2^24; `NoMemory` if memory was
     /// refused; or the first entry of the plan that was refused, and why. The shelf is dropped then.
     pub fn open(
         alloc: Global,
@@ -46,7 +46,7 @@ impl<S: Rates + Drop> Book<S> {
     }
 }
 
-// The text of a plan's opening, with room behind it, and a copy of the plan.
+// The text of a plan's opening, with room after it, and a copy of the plan.
 fn pages(alloc: Global, plan: &Plan, kind: TextKind) -> Result<(BookText, Plan), AllocError>
     ensures { IfOk result (λ both. (both.0 ≡ opened_text kind plan.now) × (both.1 ≡ plan.now)) }
 {
@@ -55,7 +55,7 @@ fn pages(alloc: Global, plan: &Plan, kind: TextKind) -> Result<(BookText, Plan),
     Ok((text, plan))
 }
 
-// The first line and the lines of a plan's opening, with room behind them.
+// The first line and the lines of a plan's opening, with room after them.
 fn opening_text(alloc: Global, plan: &Plan, kind: TextKind) -> Result<BookText, AllocError>
     ensures { IfOk result (λ text. text ≡ opened_text kind plan.now) }
 {

@@ -1,4 +1,4 @@
-//! Commands: each is one event, or none where memory was refused. By a law of the ledger (`leaves_tickets`) those that
+//! Commands: each is one event, or none if memory was refused. By a law of the ledger (`leaves_tickets`) those that
 //! make or remove currencies and tickets change the tickets of no flow, so they level none.
 ghost use Rattle.std.specs.Prelude.{◌≡◌, false};
 ghost use Rattle.share_base.specs.declared.command.Command.TheVariants.{MakeCurrency, RemoveCurrency, MakeTicket};
@@ -126,7 +126,7 @@ impl<S: Rates> Link<S> {
         }
     }
 
-    /// Makes a command: one event, or no event where memory was refused.
+    /// Makes a command: one event, or no event if memory was refused.
     pub fn command(&mut self, command: Command) -> Reply
         requires { is_spent self.old ≡ false }
         ensures { CommandCall self.old command result self.new }

@@ -40,7 +40,7 @@ impl<S: Rates> Link<S> {
         }
     }
 
-    // Opens a flow that nothing but want of memory refuses.
+    // Opens a flow that nothing but lack of memory refuses.
     fn open_allowed(&mut self, name: Name, limit: u64, tariff: u64) -> Reply
         requires living { is_spent self.old ≡ false }
         requires allowed { open_flow_refusal self.old.rates self.old.live name limit tariff ≡ None }
@@ -85,7 +85,7 @@ impl<S: Rates> Link<S> {
         }
     }
 
-    // The packets that wait in the buffer of a flow: a torn head is none of them.
+    // The packets that wait in the buffer of a flow, without a torn head.
     pub fn waiting_of(&self, flow: FlowNo) -> u32
         ensures { result ≡ waiting_of self.now.live flow }
     {
@@ -125,7 +125,7 @@ impl<S: Rates> Link<S> {
         }
     }
 
-    // Whether a flow is active once it is held or no longer: it is if it has a packet and is not held.
+    // Whether a flow is active once it is held or its hold ends: it is if it has a packet and is not held.
     fn is_awake(&self, flow: FlowNo, held: bool) -> bool
         ensures { result ≡ (is_busy self.now.live.buffers flow && not held) }
     {

@@ -4,7 +4,7 @@ ghost use Rattle.share_model.specs.funding.Changes.{set_active};
 ghost use Rattle.std.specs.FinMap.{get};
 ghost use Rattle.share_model.specs.link.Live.{tickets_of_all};
 ghost use Rattle.share_model.specs.stride.Level.{level_one, level_all, CanLevel, IsLevel};
-ghost use Rattle.share_core.specs.Held.{IfFound};
+ghost use Rattle.share_core.specs.Found.{IfFound};
 ghost use Rattle.share_core.specs.Levels.{AreTicketsOf, AreLevelAt, AreSameFrom};
 
 use crate::MAX_FLOWS;
@@ -76,7 +76,7 @@ fn are_same(levelled_with: &[u32; MAX_FLOWS], tickets: &[u32], place: usize) -> 
     same
 }
 
-// The first place, from one on, whose tickets changed. A whole stretch is passed at once where none did.
+// The first place, from one on, whose tickets changed. A whole stretch is passed at once if none did.
 fn next_changed(levelled_with: &[u32; MAX_FLOWS], tickets: &[u32], from: usize) -> Option<usize>
     requires { length tickets.now ≤ MAX_FLOWS }
     ensures some { IfSome result (λ changed. (from ≤ changed) × (changed < length tickets.now)

@@ -1,4 +1,4 @@
-//! What is read of a link.
+//! Readers of a link.
 ghost use Rattle.std.specs.Prelude.{◌≡◌, ◌<◌, ◌≤◌, ◌^◌, find, option_map, IfSome};
 ghost use Rattle.std.specs.FinMap.{get};
 ghost use Rattle.share_model.specs.funding.Changes.{flow_named};
@@ -120,7 +120,7 @@ impl<S: Rates> Link<S> {
         }
     }
 
-    /// What the flows share in the queue.
+    /// The values that the flows share in the queue.
     pub fn global(&self) -> GlobalPart
         ensures { result ≡ global_part self.now.live.queue }
     {
@@ -139,7 +139,7 @@ impl<S: Rates> Link<S> {
         })
     }
 
-    /// What the link counted, and what it holds.
+    /// The counts of the link, and its contents.
     pub fn totals(&self) -> Totals
         ensures { result ≡ totals self.now.live }
     {

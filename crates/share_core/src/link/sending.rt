@@ -49,7 +49,7 @@ impl<S: Rates> Link<S> {
         }
     }
 
-    /// The next write of a turn, or what the turn answers where there is none: `Spent`, `Broken` or `Idle`, in this
+    /// The next write of a turn, or what the turn answers if there is none: `Spent`, `Broken` or `Idle`, in this
     /// order.
     #[inline(always)]
     pub fn due(&self) -> Result<NextWrite, Turn>

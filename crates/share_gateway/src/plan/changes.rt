@@ -22,8 +22,8 @@ impl Plan {
         }
     }
 
-    /// Gives the grant of an index, from 0, of a currency or else of a tenant this amount. Nothing changes if neither
-    /// has the name, or it has fewer grants.
+    /// Gives the grant of an index, from 0, of a currency or otherwise of a tenant this amount. Nothing changes
+    /// if neither has the name, or it has fewer grants.
     pub fn set_amount(&mut self, name: Name, grant: usize, amount: u64)
         ensures { self.new ≡ with_amount name grant amount self.old }
     {

@@ -7,7 +7,7 @@ ghost use Rattle.share_ingress.specs.Gathers.{RefusesToGather};
 ghost use Rattle.share_ingress.specs.Gathers.{has_end, tallies_of};
 
 use super::{IngressEnd, Intake};
-use crate::held::{Closes, InOrder};
+use crate::protocol::{Closes, InOrder};
 use std::alloc::{AllocError, Global};
 
 /// Why the ends were not joined to the intake.
@@ -31,7 +31,7 @@ pub struct Ungathered {
 
 impl Intake {
     /// Joins all ends of this queue to the intake, and says how many offers were popped of each worker, in the order of
-    /// the workers: all that its end queued. Afterwards each worker is closed, and no offer can be taken any more.
+    /// the workers: all that its end queued. Afterwards each worker is closed, and no more offers can be taken.
     /// Errors, in the order of the tests: `Mismatch` if an end is missing, `LeftOver` if one has queued more than was
     /// popped of its worker, `NoMemory`. Then intake and ends come back as they were.
     pub fn gather(

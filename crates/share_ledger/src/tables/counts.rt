@@ -1,5 +1,5 @@
 //! How many tickets fund a holder, and whether one more would make a cycle or a chain that is too long. The kept
-//! funding tickets tell it.
+//! funding tickets show it.
 ghost use Rattle.std.specs.Prelude.{◌≡◌, ◌≤◌, length, true, false, bytes_eq, [], ◌∷◌, is_some};
 ghost use Rattle.share_base.specs.Refusal.{first_refusal};
 ghost use Rattle.share_base.specs.declared.refusal.Refusal as Refusal;

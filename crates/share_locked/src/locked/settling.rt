@@ -1,4 +1,4 @@
-//! Settles a link that is no longer served.
+//! Settles a link after its service.
 ghost use Rattle.std.specs.Prelude.{◌≡◌, count_by, Any, MatchBool, IfOk, IfErr};
 ghost use Rattle.share_model.specs.lists.Each.{Each};
 ghost use Rattle.share_ingress.specs.Gathers.{RefusesToGather};
@@ -61,8 +61,8 @@ pub struct Unsettled<W: TellingWriter, S: Rates, L: LinkBrand> {
 /// - `LeftOver`: an end has queued more than was taken of its worker;
 /// - `NoMemory`.
 ///
-/// All that the end of each worker queued came to a settled link, once and in order. The audit of its journal, run as a
-/// script in a life that is not shorter, gives the bytes that the writer tells, if no line of the output is
+/// All that the end of each worker queued came to a settled link, once and in order. The audit of its journal is run as
+/// a script in a life that is not shorter. It gives the bytes that the writer reports, if no line of the output is
 /// `no 1 NoMemory`.
 pub fn settle<W: TellingWriter, S: Rates, L: LinkBrand>(
     alloc: Global,
@@ -236,7 +236,7 @@ fn agrees<L: LinkBrand>(entries: &[Entry], clerk: &Clerk<L>) -> bool
     left.is_empty()
 }
 
-// The receipts that are left after an entry: all but the first if the entry is a command of this clerk, else all.
+// The receipts that are left after an entry: all but the first if the entry is a command of this clerk, otherwise all.
 // `None` if the first is not the receipt of that command.
 fn after_entry<'a>(
     clerk: u64,
@@ -267,7 +267,7 @@ fn is_same(one: &Receipt, other: &Receipt) -> bool
         && is_same_reply(&one.reply, &other.reply)
 }
 
-// The derived `==` does not tell a contract that the commands are the same.
+// The derived `==` does not show a contract that the commands are the same.
 fn is_same_command(one: &Command, other: &Command) -> bool
     ensures { IsTrue result ↔ (one.now ≡ other.now) }
 {

@@ -1,4 +1,4 @@
-pub mod CallsLaws
-pub mod CountBytes
-pub mod Output
-pub mod PrintingLaws
+pub mod CallLemmas
+pub mod CountEncodingLemmas
+pub mod OutputLemmas
+pub mod PrintingLemmas

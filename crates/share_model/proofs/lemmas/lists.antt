@@ -1,6 +1,6 @@
-pub mod CountLaws
-pub mod Laws
-pub mod OrderLaws
-pub mod PartLaws
-pub mod RemoveLaws
-pub mod SumLaws
+pub mod CountLemmas
+pub mod FirstItemLemmas
+pub mod ItemSumLemmas
+pub mod OrderLemmas
+pub mod RemovalLemmas
+pub mod SumLemmas

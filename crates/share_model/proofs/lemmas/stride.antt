@@ -1,8 +1,8 @@
-pub mod BoundLaws
-pub mod DivisionLaws
-pub mod LevelLaws
-pub mod MapLaws
-pub mod MoveLaws
-pub mod NextLaws
-pub mod ShareLaws
-pub mod SoundLaws
+pub mod BoundLemmas
+pub mod DivisionLemmas
+pub mod LevellingLemmas
+pub mod MapLemmas
+pub mod MoveLemmas
+pub mod NextFlowLemmas
+pub mod ShareLemmas
+pub mod SoundQueueLemmas

@@ -1,4 +1,4 @@
--- What holds of a graph of tickets and currencies after any list of commands.
+-- The invariant of a graph of tickets and currencies after any list of commands.
 use Rattle.std.specs.Prelude.{◌≡◌, ◌≤◌, ℕ, ◌*◌, ◌/◌, ◌^◌, Bool, false, List, ◌∷◌, length, sum_by, count_by, nat_eq}
 use Rattle.std.specs.Prelude.{nat_lt, bytes_eq, if◌then◌else◌}
 use Rattle.share_model.specs.lists.Each.{Each}

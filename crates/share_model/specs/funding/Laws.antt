@@ -9,11 +9,11 @@ use Rattle.share_model.specs.funding.Changes.{remove_ticket, fund_currency, add_
 use Rattle.share_model.specs.lists.Each.{Each}
 use Rattle.share_model.specs.funding.Kept.{is_awake, kept_worth, IsCached}
 
--- what the tickets that fund a flow are worth together, before the cap
+-- the worth of the tickets that fund a flow together, before the cap
 abbrev pub uncapped_tickets : Graph → ℕ → ℕ
 uncapped_tickets g f = sum_by (worth g 9) (funding g.tickets f)
 
--- what is issued of a currency: the amounts of all tickets that are denominated in it, active or not
+-- the issued amount of a currency: the amounts of all tickets that are denominated in it, active or not
 abbrev pub issued_amount : Graph → NameBytes → ℕ
 issued_amount g c = sum_by (λ (t : Ticket). t.amount) (denominated_in g.tickets c)
 
@@ -48,7 +48,7 @@ pub record IsAsDefined (g : Graph) (amount value : NameBytes → ℕ) : Type 0 w
   pub shares : (f : ℕ)
       → tickets g f ≡ min (2 ^ 20) (sum_by (kept_worth g amount value) (funding g.tickets f))
 
--- Whatever amounts and values meet the equations of one step are those of the definition.
+-- All amounts and values that meet the equations of one step are those of the definition.
 abbrev pub CachedIsAsDefined : Graph → Type 0
 CachedIsAsDefined g = (amount value : NameBytes → ℕ) → IsCached g amount value → IsAsDefined g amount value
 

@@ -31,7 +31,7 @@ abbrev pub has : ℕ → List ℕ → Bool
 has w [] = false
 has w (v ∷ vs) = nat_eq v w || has w vs
 
--- What the intake and the ends know
+-- The views of the intake and the ends
 
 abbrev pub an_end : ℕ → List Offer → QueueView
 an_end worker pushed = record {
@@ -121,13 +121,13 @@ pub record KeepsOrder (items : List Offer) (views : List QueueView) : Type 0 whe
   pub intake : (pass : ℕ) (v : QueueView) → get_elem? views pass ≡ some v → v.gets ≡ true
       → IsIntake reader got items made shut pass v
 
--- What a step tells
+-- The facts that a step gives
 
 -- the end pushed x
 abbrev pub Put : QueueView → Offer → QueueView → Type 0
 Put v x w = w ≡ an_end v.worker (v.pushed ++ x ∷ [])
 
--- what the queue holds of this worker is what its end pushed last
+-- the items of this worker in the queue are those that its end pushed last
 abbrev pub OwnLast : QueueView → List Offer → Type 0
 OwnLast v items = (before : List Offer) × (v.pushed ≡ before ++ of_worker v.worker items)
 
@@ -139,10 +139,10 @@ pub record Taken (v : QueueView) (x : Offer) (w : QueueView) : Type 0 where
   pub number : x.n ≡ suc (length (of_worker x.worker v.popped))
   pub still : has x.worker v.closed ≡ false
 
--- what was ahead at the last pop is still in front
+-- the items that were ahead at the last pop are still in front
 abbrev pub StillAhead : QueueView → List Offer → Type 0
 StillAhead v items = Begins items v.ahead
 
--- what the end that is with the intake pushed is what was popped of it, and then what the queue holds of it
+-- the items that the end beside the intake pushed are those that were popped of it, and then its own in the queue
 abbrev pub Behind : QueueView → List Offer → Type 0
 Behind v items = v.pushed ≡ of_worker v.worker v.popped ++ of_worker v.worker items

@@ -34,7 +34,7 @@ bad_after_one = record {
   ends = bad_name_length 0 [] refl refl;
 }
 
--- the second payload would have 1491 bytes, of which there is none
+-- the second payload has 1491 bytes, and none of them is there
 missing_after_one : IsRecords (1 ∷ 97 ∷ 0 ∷ 1 ∷ 97 ∷ 1 ∷ 97 ∷ 5 ∷ 211 ∷ []) (a_item ∷ []) Cut
 missing_after_one = record {
   rest = 1 ∷ 97 ∷ 5 ∷ 211 ∷ [];

@@ -40,7 +40,7 @@ pub data ReadFails {R : Type 0} (gives : R → List ℕ → Got → R → Type 0
       → gives before buffer ReadFailed last → ReadFails gives most first last
   too_many_reads : Reads gives first most last → ReadFails gives most first last
 
--- what was read if a run stopped for another reason: at most `most` such calls, or all up to the end
+-- the bytes that were read if a run stopped for another reason: at most `most` such calls, or all up to the end
 pub data HasRead {R : Type 0} (gives : R → List ℕ → Got → R → Type 0) (most : ℕ) (first last : R) : Type 0 where
   reading : (count : ℕ) → count ≤ most → Reads gives first count last → HasRead gives most first last
   read_to_end : ReadsToEnd gives most first last → HasRead gives most first last

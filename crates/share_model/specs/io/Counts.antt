@@ -2,7 +2,7 @@
 use Rattle.std.specs.Prelude.{ℕ, ◌+◌, ◌*◌, List, [], ◌∷◌, nat_eq, if◌then◌else◌}
 use Rattle.std.specs.List.{prefix_len}
 
--- the counts that the bytes tell
+-- the counts in the bytes
 abbrev pub counts_in : List ℕ → List ℕ
 counts_in [] = []
 counts_in (b ∷ bs) =

@@ -1,4 +1,4 @@
--- What a reader tells of the bytes that it gave.
+-- The bytes that a reader says that it gave.
 use Rattle.std.specs.Prelude.{◌<◌, ◌≤◌, ℕ, List, [], length, take, Option}
 use Rattle.std.specs.Io.KnownBytes.{Consumes, Keeps, IsAtEnd}
 use Rattle.share_model.specs.declared.reader.Got.{Got}

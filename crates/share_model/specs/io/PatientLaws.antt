@@ -1,4 +1,4 @@
--- What a patient writer does is what the writer below it tells.
+-- A patient writer does what the `told` of the writer below it says.
 use Rattle.std.specs.Prelude.{◌≡◌, ℕ, List, Option, refl}
 use Rattle.std.proofs.Common.{◌∙◌, subst}
 use Rattle.share_model.specs.declared.writer.Answer.{Answer}
@@ -6,13 +6,13 @@ use Rattle.share_model.specs.declared.writer.Answer.TheVariants.{Interrupted}
 use Rattle.share_model.specs.io.Patient.{Repeats, no_repeats, one_repeat, PatientAnswers}
 use Rattle.share_model.specs.io.Told.{Told, WasTold}
 
--- a relation whose calls are told
+-- a relation whose calls are reported
 abbrev pub Tells : {W : Type 0} → (W → Option Told) → (W → List ℕ → Answer → W → Type 0) → Type 0
 Tells {W = W} told answers =
     (before : W) (piece : List ℕ) (answer : Answer) (after : W) → answers before piece answer after
     → WasTold (told before) piece answer (told after)
 
--- offers that were interrupted tell nothing
+-- offers that were interrupted report nothing
 pub repeats_tell : {W : Type 0} (told : W → Option Told) (answers : W → List ℕ → Answer → W → Type 0)
     → Tells told answers → (piece : List ℕ) (first : W) (n : ℕ) (last : W) → Repeats answers piece first n last
     → told last ≡ told first

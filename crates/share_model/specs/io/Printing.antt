@@ -1,4 +1,4 @@
--- What was written to a writer.
+-- The bytes that were written to a writer.
 use Rattle.std.specs.Prelude.{ℕ, List, take, Option, option_map, Result, MatchResult}
 use Rattle.std.specs.Io.KnownBytes.{Appends}
 use Rattle.share_model.specs.declared.writer.Answer.{Answer}

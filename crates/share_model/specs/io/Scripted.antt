@@ -4,7 +4,7 @@ use Rattle.share_model.specs.declared.writer.Answer.{Answer}
 use Rattle.share_model.specs.declared.writer.Answer.TheVariants.{Accepted, Interrupted, Failed}
 use Rattle.share_model.specs.io.Told.{Told, Fits, with_first}
 
--- the answers that are left, and what was told
+-- the answers that are left, and what was reported
 pub record ScriptedState : Type 0 where
   pub answers : List Answer
   pub told : Told

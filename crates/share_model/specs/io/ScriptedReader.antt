@@ -10,11 +10,11 @@ pub record ScriptedBytes : Type 0 where
   pub answers : List Got
   pub left : List ℕ
 
--- so many bytes, at least 1, cut to those that are left and to the room; the end if none is left
+-- that many bytes, at least 1, cut to those that are left and to the room; the end if none is left
 abbrev pub bytes_or_end : ℕ → ℕ → ℕ → Got
 bytes_or_end left room k = if left == 0 then End else Bytes (min (min (max k 1) left) room)
 
--- an answer where so many bytes are left: it is the end only where none is
+-- an answer if that many bytes are left: it is the end only if none is
 abbrev pub got_cut_to : ℕ → ℕ → Got → Got
 got_cut_to left room (Bytes k) = bytes_or_end left room k
 got_cut_to left room End = bytes_or_end left room room
@@ -26,7 +26,7 @@ abbrev pub next_got : List Got → ℕ → ℕ → Got
 next_got [] left room = bytes_or_end left room room
 next_got (got ∷ answers) left room = got_cut_to left room got
 
--- no more is given than is left and has room, and it is the end only where nothing is left
+-- no more is given than is left and has room, and it is the end only if nothing is left
 abbrev pub FitsIn : ℕ → ℕ → Got → Type 0
 FitsIn left room (Bytes k) = (0 < k) × (k ≤ left) × (k ≤ room)
 FitsIn left room End = left ≡ 0

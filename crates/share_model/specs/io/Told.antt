@@ -1,4 +1,4 @@
--- What a writer tells of the bytes that it was offered.
+-- The reports of a writer on the bytes that it was offered.
 use Rattle.std.specs.Prelude.{◌≡◌, ◌≤◌, ℕ, List, [], ◌∷◌, ◌++◌, length, take, Option, option_map, ⊤}
 use Rattle.std.specs.Io.KnownBytes.{Appends, Keeps}
 use Rattle.share_model.specs.declared.writer.Answer.{Answer}

@@ -1,4 +1,4 @@
--- What each writer does is what it tells.
+-- Each writer does what its `told` says.
 use Rattle.std.specs.Prelude.{ℕ, List, Option, Some, None}
 use Rattle.std.proofs.Common.{arith, ap, refl}
 use Rattle.share_model.specs.declared.writer.Answer.{Answer}
@@ -18,7 +18,7 @@ scripted_tells before piece (Accepted k) after did = (did.fits, ap Some did.told
 scripted_tells before piece Interrupted after did = ap Some did.told
 scripted_tells before piece Failed after did = ap Some did.told
 
--- a writer of which no counts are known tells nothing
+-- a writer of which no counts are known reports nothing
 pub plain_tells : (old : Option (List ℕ)) (piece : List ℕ) (answer : Answer) (new : Option (List ℕ))
     → PlainAnswers old piece answer new → WasTold None piece answer None
 plain_tells old piece (Accepted k) new did = (did.0, refl)

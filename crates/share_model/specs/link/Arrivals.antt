@@ -1,4 +1,4 @@
--- What an arrival does to a link: the packet goes into the buffer of its flow.
+-- The effect of an arrival on a link: the packet goes into the buffer of its flow.
 use Rattle.std.specs.Prelude.{ℕ, ◌+◌, not, List, Option, None, Some, if◌then◌else◌}
 use Rattle.share_base.specs.declared.refusal.Refusal.TheVariants.{NoFlow, BufferFull}
 use Rattle.share_base.specs.declared.command.Reply.{Reply}

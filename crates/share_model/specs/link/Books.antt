@@ -37,14 +37,14 @@ is_held_by (Some b) = b.held
 abbrev pub is_held : List Book → ℕ → Bool
 is_held books f = is_held_by (find (is_book_of f) books)
 
--- the flow is held from now on, or no longer
+-- the flow is held from this event on, or its hold ends
 abbrev pub with_hold : Bool → Book → Book
 with_hold held b = record b { held = held }
 
 abbrev pub books_with_hold : List Book → ℕ → Bool → List Book
 books_with_hold books f held = change_first (is_book_of f) (with_hold held) books
 
--- What is posted
+-- The posted amount
 
 -- the units of n bytes under a flow's tariff
 abbrev pub units_by : List Rate → ℕ → Option Book → ℕ

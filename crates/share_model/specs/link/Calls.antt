@@ -1,4 +1,4 @@
--- What each call of a link did, as a relation between the link before it, the answer, and the link after it.
+-- The effect of each call of a link, as a relation between the link before it, the answer, and the link after it.
 use Rattle.std.specs.Prelude.{◌≡◌, ◌⊎◌, ◌==◌, ℕ, Bool, true, false, List, take, Option, None, Some, MatchBool}
 use Rattle.std.specs.Prelude.{if◌then◌else◌}
 use Rattle.share_base.specs.declared.refusal.Refusal.TheVariants.{NoMemory, Spent as SpentRefusal}
@@ -30,13 +30,13 @@ pub record Stepped {W A : Type 0} (next : Live × A) (old : LinkView W) (answer 
   pub answer_is : answer ≡ next.1
   pub rest : KeepsRest old new
 
--- if the life is spent, the call is refused and is no event; else it is the event of this step
+-- if the life is spent, the call is refused and is no event; otherwise it is the event of this step
 abbrev pub Steps : {W : Type 0} → (List Rate → Live → Live × Reply) → LinkView W → Reply → LinkView W → Type 0
 Steps step old reply new =
     MatchBool (is_spent old) ((reply ≡ Refused SpentRefusal) × (new ≡ old))
     (Stepped (step old.rates old.live) old reply new)
 
--- a command that takes memory was refused it, and nothing changed; nothing else was wrong with the command
+-- a command that takes memory was refused it, and nothing changed; nothing but that was wrong with the command
 pub record FoundNoMemory {W : Type 0} (old : LinkView W) (c : Command) (reply : Reply) (new : LinkView W) : Type 0 where
   pub reply_is : reply ≡ Refused NoMemory
   pub unchanged : new ≡ old
@@ -44,7 +44,7 @@ pub record FoundNoMemory {W : Type 0} (old : LinkView W) (c : Command) (reply : 
   pub takes : takes_memory c ≡ true
   pub allowed : command_refusal old.rates old.live c ≡ None
 
--- in a spent life the command is refused and is no event; else it is the event of its step
+-- in a spent life the command is refused and is no event; otherwise it is the event of its step
 abbrev pub CommandStep : {W : Type 0} → LinkView W → Command → Reply → LinkView W → Type 0
 CommandStep old c reply new = Steps (λ rates l. command_step rates l c) old reply new
 
@@ -52,7 +52,7 @@ CommandStep old c reply new = Steps (λ rates l. command_step rates l c) old rep
 abbrev pub CommandCall : {W : Type 0} → LinkView W → Command → Reply → LinkView W → Type 0
 CommandCall old c reply new = FoundNoMemory old c reply new ⊎ CommandStep old c reply new
 
--- what an answer of the writer makes of the link
+-- the effect of an answer of the writer on the link
 abbrev pub step_by_answer : List Rate → Live → Sending → Answer → Live × Turn
 step_by_answer rates l s (Accepted k) = if k == 0 then fault_step rates l s else write_step rates l s k
 step_by_answer rates l s Interrupted = (l, Again)
@@ -74,7 +74,7 @@ abbrev pub OffersSome : {W : Type 0} → (W → List ℕ → Answer → W → Ty
 OffersSome answers old most None turn new = (turn ≡ Idle) × (new ≡ old)
 OffersSome answers old most (Some s) turn new = OfferDecided answers old most s turn new
 
--- first Spent is tested, then Broken, then Idle: nothing to send; else the writer answers once
+-- first Spent is tested, then Broken, then Idle: nothing to send; otherwise the writer answers once
 abbrev pub TurnCall : {W : Type 0} → (W → List ℕ → Answer → W → Type 0) → LinkView W → ℕ → Turn → LinkView W → Type 0
 TurnCall answers old most turn new =
     MatchBool (is_spent old) ((turn ≡ Spent) × (new ≡ old))

@@ -1,4 +1,4 @@
--- What each command does to a link, and when it is refused.
+-- The effect of each command on a link, and when it is refused.
 use Rattle.std.specs.Prelude.{ℕ, ◌+◌, ◌-◌, Bool, true, false, not, ◌&&◌, List, [], ◌∷◌, ◌++◌, length, nat_eq, nat_le}
 use Rattle.std.specs.Prelude.{Option, None, Some, is_some, if◌then◌else◌, ◌≡◌, ◌≤◌}
 use Rattle.std.specs.Set.{remove_key}

@@ -49,7 +49,7 @@ frame version tariff h = header version tariff h.flow h.seq (length h.payload) +
 abbrev pub frame_length : Version → Packet → ℕ
 frame_length version h = header_length version + length h.payload
 
--- What a frame carries
+-- The fields of a frame
 
 -- a tariff number is 1 to 8; version 1 has none, so there it may be any
 abbrev pub FitsTariff : Version → ℕ → Type 0

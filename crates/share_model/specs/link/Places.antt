@@ -18,7 +18,7 @@ IsCompeting link flow tickets =
 abbrev pub place_of : {W : Type 0} → LinkView W → ℕ → ℤ
 place_of link flow = option_map_or (λ (position : Position). position.place) (position_at link flow) (pos 0)
 
--- what is added to the place of a flow from one link to another
+-- the difference of the place of a flow from one link to another
 abbrev pub gain : {W : Type 0} → ℕ → LinkView W → LinkView W → ℤ
 gain flow before after = place_of after flow -ℤ place_of before flow
 
@@ -27,8 +27,8 @@ abbrev pub largest_gain : {W : Type 0} → ℕ → LinkView W → List (LinkView
 largest_gain flow first [] = pos 0
 largest_gain flow first (next ∷ later) = int_max (gain flow first next) (largest_gain flow next later)
 
--- what `one` gains in a chain is at most the greater of 0 and this sum: what `other` gains, by how much the place of
--- `other` was ahead at the start, and the largest gain of `one` in a single call
+-- the gain of `one` in a chain is at most the greater of 0 and a sum of three terms: the gain of `other`, the distance
+-- by which the place of `other` was ahead at the start, and the largest gain of `one` in a single call
 abbrev pub GainsWithinShare : {W : Type 0} → ℕ → ℕ → LinkView W → List (LinkView W) → Type 0
 GainsWithinShare one other first later =
     gain one first (last_link first later)

@@ -1,4 +1,4 @@
--- What the readers of a link answer of its flows.
+-- The answers of the readers of a link on its flows.
 use Rattle.std.specs.Prelude.{◌≡◌, ◌≤◌, ◌^◌, ℕ, List, map, sum, find, Option, Some, option_map}
 use Rattle.std.specs.FinMap.{get}
 use Rattle.share_model.specs.declared.funding.OpenFlow.{OpenFlow}
@@ -9,16 +9,16 @@ use Rattle.share_model.specs.link.Books.{is_book_of}
 use Rattle.share_model.specs.link.View.{LinkView}
 use Rattle.share_model.specs.stride.Moves.{position}
 
--- what `position` answers: None if the flow is not open
+-- the answer of `position`: None if the flow is not open
 abbrev pub position_at : {W : Type 0} → LinkView W → ℕ → Option Position
 position_at link flow = option_map position (get link.live.queue.clients flow)
 
--- what `tickets` answers: None if the flow is not open
+-- the answer of `tickets`: None if the flow is not open
 abbrev pub tickets_at : {W : Type 0} → LinkView W → ℕ → Option ℕ
 tickets_at link flow = option_map (λ _. tickets link.live.graph flow) (find (is_book_of flow) link.live.books)
 
--- what `tickets` answers of the open flows, in order of opening: these numbers, which are together at most the active
--- amount of `base`
+-- the answers of `tickets` for the open flows, in order of opening: these numbers, which are together at most the
+-- active amount of `base`
 pub record TicketsAreWithin {W : Type 0} (link : LinkView W) : Type 0 where
   pub answers : List ℕ
   pub answers_are : map (λ (e : NameBytes × OpenFlow). tickets_at link e.1.number) link.live.graph.flows

@@ -1,4 +1,4 @@
--- What is read of a link: its totals, and each of its open flows.
+-- The readings of a link: its totals, and each of its open flows.
 use Rattle.std.specs.Prelude.{ℕ, ◌-◌, Bool, true, false, List, length, sum_by, slice_get, Option, None, Some}
 use Rattle.std.specs.Prelude.{option_map}
 use Rattle.std.specs.Prelude.{if◌then◌else◌}
@@ -32,7 +32,7 @@ state_by true part = Torn
 state_by false None = Free
 state_by false (Some p) = InPart
 
--- how many packets are torn, also if the flow was closed since
+-- how many packets are torn, even if the flow was closed since
 abbrev pub torn_count : Bool → ℕ
 torn_count broken = if broken then 1 else 0
 

@@ -1,4 +1,4 @@
--- What a contract sees of a link: its life and its tariffs, which never change, what it holds, and its writer.
+-- The view of a link in contracts: its life and its tariffs, which never change, what it holds, and its writer.
 use Rattle.std.specs.Prelude.{ℕ, List}
 use Rattle.share_model.specs.declared.rates.Rate.{Rate}
 use Rattle.share_model.specs.link.Live.{Live}

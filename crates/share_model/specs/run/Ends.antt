@@ -1,4 +1,4 @@
--- What a link and its writer hold at the end of a run.
+-- The state of a link and its writer at the end of a run.
 use Rattle.std.specs.Prelude.{◌≡◌, ℕ, List, filter, nat_lt}
 use Rattle.share_model.specs.declared.rates.Rate.{Rate}
 use Rattle.share_model.specs.io.Told.{Told}

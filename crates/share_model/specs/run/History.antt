@@ -1,4 +1,4 @@
--- The history of a run: which packets were accepted and sent, what they cost, and the bytes that tell them.
+-- The history of a run: which packets were accepted and sent, what they cost, and the bytes that determine them.
 use Rattle.std.specs.Prelude.{◌≡◌, ◌<◌, ◌+◌, ◌-◌, ◌*◌, ℕ, Bool, not, List, [], ◌∷◌, ◌++◌, length, take, map, flat_map}
 use Rattle.std.specs.Prelude.{filter}
 use Rattle.std.specs.Prelude.{sum_by, nat_eq, Option, None, Some, if◌then◌else◌}
@@ -56,7 +56,7 @@ sent_by f done = filter (λ (d : Sent). nat_eq f d.head.flow) done
 abbrev pub sent_numbers : ℕ → List Sent → List ℕ
 sent_numbers f done = map (λ (d : Sent). d.head.seq) (sent_by f done)
 
--- what n bytes of a frame cost under a tariff
+-- the cost of n bytes of a frame under a tariff
 abbrev pub cost : List Rate → ℕ → ℕ → ℕ
 cost rates tariff n = (rate_of rates tariff).price * units_of (rate_of rates tariff) n
 
@@ -68,12 +68,12 @@ abbrev pub torn_cost : List Rate → (ℕ → Bool) → Option TornFrame → ℕ
 torn_cost rates p None = 0
 torn_cost rates p (Some t) = if p t.head.flow then cost rates t.tariff t.out else 0
 
--- what the packets of certain flows cost: those that were written whole, and the torn one
+-- the cost of the packets of certain flows: those that were written whole, and the torn one
 abbrev pub cost_of : Version → List Rate → (ℕ → Bool) → List Sent → Option TornFrame → ℕ
 cost_of version rates p done t =
     sum_by (sent_cost version rates) (filter (λ (d : Sent). p d.head.flow) done) + torn_cost rates p t
 
--- what a flow's packets cost
+-- the cost of a flow's packets
 abbrev pub bill : List Rate → State → ℕ → ℕ
 bill rates s f = cost_of s.live.version rates (nat_eq f) s.done s.torn
 
@@ -81,7 +81,7 @@ bill rates s f = cost_of s.live.version rates (nat_eq f) s.done s.torn
 abbrev pub is_closed : List ℕ → ℕ → Bool
 is_closed flows f = not (has_number f flows)
 
--- what the packets of closed flows cost
+-- the cost of the packets of closed flows
 abbrev pub past_bill : List Rate → State → ℕ
 past_bill rates s = cost_of s.live.version rates (is_closed (flow_numbers s.live.graph.flows)) s.done s.torn
 

@@ -1,4 +1,4 @@
--- What two flows are charged in a stretch of events, on the scale of their passes.
+-- The charges of two flows in a stretch of events, on the scale of their passes.
 use Rattle.std.specs.Prelude.{◌≡◌, ℕ, true, List, [], ◌∷◌, ◌++◌, length, Option, None, Some, if◌then◌else◌}
 use Rattle.share_base.specs.declared.command.Event.{Event}
 use Rattle.share_base.specs.declared.command.Event.TheVariants.{Commanded, Arrived, Written, Faulted}

@@ -1,6 +1,6 @@
--- What holds of every link that events have made, layer by layer: the bounds that keep each number in its type, and the
--- ties between the funding, the queue, the buffers and the books. Callers learn it from each call; the laws say that
--- each event keeps it.
+-- The invariant of every link that events have made, layer by layer: the bounds that keep each number in its type,
+-- and the ties between the funding, the queue, the buffers and the books. Callers learn it from each call; the laws
+-- say that each event keeps it.
 use Rattle.std.specs.Prelude.{◌≡◌, ◌⊎◌, ◌<◌, ◌≤◌, ◌+◌, ◌-◌, ◌*◌, ◌^◌, ℕ, Bool, true, false, not, List, map, length}
 use Rattle.std.specs.Prelude.{sum_by}
 use Rattle.std.specs.Prelude.{◌&&◌, Option, None, Some, IsTrue, is_some}

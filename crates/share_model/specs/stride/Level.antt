@@ -50,11 +50,11 @@ AreDistinctFlows (e ∷ es) = Each (λ other. e.0 ≢ other.0) es × AreDistinct
 
 -- ---- The laws
 
--- what was levelled is level
+-- a queue that was levelled is level
 abbrev pub LevelledIsLevel : Type 0
 LevelledIsLevel = (s : Stride) (wants : List (ℕ × ℕ)) → AreDistinctFlows wants → IsLevel (level_all s wants) wants
 
--- what is level takes no move
+-- a level queue takes no move
 abbrev pub LevelStays : Type 0
 LevelStays = (s : Stride) (wants : List (ℕ × ℕ)) → IsLevel s wants → level_all s wants ≡ s
 

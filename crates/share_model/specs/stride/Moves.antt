@@ -1,7 +1,7 @@
--- The dynamic stride queue. Each client has a stride, 2^40 divided by its tickets, and a pass, to which a charge of u
--- units adds stride * u / 1024. The competing client with the least pass comes next. The global pass is that of a
--- client with all tickets of those that compete. A client that ceases to compete keeps its remain, which is by how much
--- its pass was ahead of the global pass, and begins there when it returns. All divisions round down.
+-- The dynamic stride queue. Each client has a stride, 2^40 divided by its tickets, and a pass. A charge of u units adds
+-- stride * u / 1024 to the pass. The competing client with the least pass comes next. The global pass is that of a
+-- client with all tickets of those that compete. A client that ceases to compete keeps its remain, the distance by
+-- which its pass was ahead of the global pass. It begins there when it returns. All divisions round down.
 use Rattle.std.specs.Prelude.{◌≡◌, ◌≢◌, ℕ, zero, suc, ◌+◌, ◌-◌, ◌*◌, ◌/◌, ◌^◌, ◌<◌, ℤ, pos, ◌+ℤ◌, ◌-ℤ◌, ◌*ℤ◌, ◌<ℤ◌}
 use Rattle.std.specs.Prelude.{int_lt, Bool, true, false, List, [], ◌∷◌, sum_by, nat_le, Option, None, Some, option_map}
 use Rattle.std.specs.Prelude.{unwrap_or, IsTrue, ◌⊎◌, if◌then◌else◌, refl}

@@ -28,7 +28,7 @@ abbrev pub IsFairRun : ℕ → ℕ → Stride → List Step → Type 0
 IsFairRun one other s [] = Unit {0}
 IsFairRun one other s (step ∷ steps) = IsFairStep one other s step × IsFairRun one other (after_step s step) steps
 
--- what a charge adds to a pass
+-- the part of a charge that is added to a pass
 abbrev pub share : Client → ℕ → ℕ
 share c units = c.stride * units / 1024
 
@@ -46,7 +46,7 @@ abbrev pub charges_of : ℕ → ℕ → Stride → List Step → List Charge
 charges_of one other s [] = []
 charges_of one other s (step ∷ steps) = charges_in one other s step (charges_of one other (after_step s step) steps)
 
--- of two flows that compete and do not move, `one` is charged within its share beside `other`
+-- two flows compete and do not move: `one` is charged within its share beside `other`
 abbrev pub RunsStayClose : Type 0
 RunsStayClose =
     (one other : ℕ) (s : Stride) (steps : List Step) → one ≢ other → IsTrue (client s one).competes

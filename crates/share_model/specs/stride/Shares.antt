@@ -1,4 +1,4 @@
--- What two flows that compete, `one` and `other`, are charged, on the scale of their passes.
+-- The charges of two flows that compete, `one` and `other`, on the scale of their passes.
 use Rattle.std.specs.Prelude.{ℕ, ◌+◌, max, List, [], ◌∷◌, ℤ, pos, ◌+ℤ◌, ◌-ℤ◌, ◌≤ℤ◌}
 use Rattle.std.specs.Int.{int_max}
 
@@ -29,8 +29,8 @@ ChargesLeast one other [] = Unit {0}
 ChargesLeast one other (One n ∷ rest) = (one ≤ℤ other) × ChargesLeast (one +ℤ pos n) other rest
 ChargesLeast one other (Other n ∷ rest) = ChargesLeast one (other +ℤ pos n) rest
 
--- what `one` is charged is at most the greater of 0 and this sum: what `other` is charged, by how much the pass of
--- `other` was ahead at the start, and the largest charge to `one`
+-- the charges to `one` are at most the greater of 0 and a sum of three terms: those to `other`, the distance by which
+-- the pass of `other` was ahead at the start, and the largest charge to `one`
 abbrev pub IsWithinShare : ℤ → ℤ → List Charge → Type 0
 IsWithinShare one other charges =
     pos (to_one charges) ≤ℤ int_max (pos 0) (pos (to_other charges) +ℤ (other -ℤ one) +ℤ pos (largest_to_one charges))

@@ -1,4 +1,4 @@
--- What a line of a script came to, on a link that holds what the lines before it left.
+-- The outcome of a line of a script, on a link that holds what the lines before it left.
 use Rattle.std.specs.Prelude.{◌≡◌, ℕ, Bool, true, List, Option, IfSome, ⊤, length}
 use Rattle.share_model.specs.declared.line.Line.{Line}
 use Rattle.share_model.specs.declared.writer.Answer.{Answer}
@@ -9,7 +9,7 @@ use Rattle.share_model.specs.run.Ends.{IsEndOf, TellsRun}
 use Rattle.share_model.specs.io.Told.{Told}
 use Rattle.share_model.specs.text.Talk.{Progress, start_of_script, is_first, line_answer, answer}
 
--- the link holds what the script came to, which before its first line is nothing; and if its writer tells bytes and
+-- the link holds what the script came to, which before its first line is nothing; and if its writer reports bytes and
 -- counts, they are the script's
 pub record Holds {W : Type 0} (told : W → Option Told) (link : LinkView W) (p : Progress) : Type 0 where
   pub fresh : is_first p ≡ true → p ≡ start_of_script
@@ -26,7 +26,7 @@ pub record IsAnswerBy {W : Type 0} (told : W → Option Told) (next : Bool → P
   pub life : new.life ≡ old.life
   pub rates : new.rates ≡ old.rates
 
--- whatever script was in progress on the link, the line was answered as its next line, the first or a later one
+-- the line was answered as the next line of any script in progress on the link, the first or a later one
 abbrev pub AnswersLine : {W : Type 0} → (W → Option Told) → LinkView W → Bool → Line → List ℕ → LinkView W → Type 0
 AnswersLine told old first l text new =
     (p : Progress) → Holds told old p → is_first p ≡ first

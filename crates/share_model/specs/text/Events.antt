@@ -7,7 +7,7 @@ use Rattle.share_model.specs.text.Lines.{reading}
 use Rattle.share_model.specs.text.Talk.{Progress, Made, makes, says, chooses, read_event, answer, first_flag}
 use Rattle.share_model.specs.text.Texts.{line_text}
 
--- what each line makes
+-- the events of each line
 unfoldable pub made_of : ℕ → List Rate → Progress → List Bool → List (List ℕ) → List Made
 made_of life rates p lacks [] = []
 made_of life rates p lacks (l ∷ ls) =
@@ -23,7 +23,7 @@ events_by (chooses version) = []
 abbrev pub events_of : ℕ → List Rate → Progress → List Bool → List (List ℕ) → List Event
 events_of life rates p lacks ls = flat_map events_by (made_of life rates p lacks ls)
 
--- the answers to the lines: the text of the next outcome for a line that made an event, else the line's own text
+-- the answers to the lines: the text of the next outcome for a line that made an event, otherwise the line's own text
 abbrev pub texts_of : List Made → List Outcome → List ℕ
 texts_of [] outcomes = []
 texts_of (says text ∷ rs) outcomes = text ++ texts_of rs outcomes

@@ -123,7 +123,7 @@ is_in_range version Torn = true
 is_in_range version Report = true
 is_in_range version (Audit named) = true
 
--- What bytes are read as
+-- The reading of bytes
 
 abbrev pub is_space : ℕ → Bool
 is_space b = b == 32
@@ -275,7 +275,7 @@ unfoldable pub reading : Version → List ℕ → Result Line Refusal
 reading version bs =
     if nat_lt 20480 (length bs) then Err Syntax else line_or_refusal version (line_of (words_of bs))
 
--- What a reading answers, said of spellings
+-- The answer of a reading, said of spellings
 
 -- the line is spelled by these bytes, and in range in this version
 pub record IsReading (version : Version) (bs : List ℕ) (l : Line) : Type 0 where

@@ -37,7 +37,7 @@ reports_and_audits_are_read : read (codes "report" ∷ codes "audit 1" ∷ codes
 unfolding read reading line_by
 reports_and_audits_are_read = refl
 
--- a version that is none, and other spellings of those that are
+-- a version that does not exist, and other spellings of those that do
 other_audits_are_syntax : read (
     codes "audit" ∷ codes "audit 3" ∷ codes "audit 01" ∷ codes "audit 02" ∷ codes "audit 2 " ∷ codes "audit 11"
     ∷ codes "audit 1 " ∷ codes "audit 1 1" ∷ codes "audit  1" ∷ codes "audit 0" ∷ codes "report 1" ∷ codes "reports"
@@ -53,7 +53,7 @@ unfolding read reading line_by number_of digits
 limits_are_read = refl
 
 -- a number of 2^64, a leading zero, a sign, an upper-case digit, an odd number of digits, a missing payload, spaces
--- that are too many, an empty line, a carriage return, a NUL, names and kinds that are none, words too many
+-- that are too many, an empty line, a carriage return, a NUL, names and kinds that are malformed, words too many
 faults_are_syntax : read (
     codes "turn 18446744073709551616" ∷ codes "fund 01 flow a" ∷ codes "turn +1" ∷ codes "send a 6A" ∷ codes "send a 6"
     ∷ codes "send a " ∷ codes "send a" ∷ codes "open  a 4 1" ∷ codes "open a 4 1 " ∷ codes " torn"

@@ -52,7 +52,7 @@ after_event rates p e = record { state = step rates p.state e; lines = p.lines +
 abbrev pub with_version : Progress → Version → Progress
 with_version p version = record { state = empty_state version; lines = p.lines + 1; writes = p.writes }
 
--- What a line makes: an event; a text without one; or the choice of the version, which has no text
+-- The effect of a line: an event; a text without one; or the choice of the version, which has no text
 
 pub data Made : Type 0 where
   makes : Event → Made
@@ -132,7 +132,7 @@ abbrev pub read_event : ℕ → List Rate → Progress → Bool → Result Line 
 read_event life rates p lack (Ok l) = line_event life rates p lack l
 read_event life rates p lack (Err e) = unread_event life p.state e
 
--- What a line is answered
+-- The answer to a line
 
 -- an event is one step, answered with its outcome; a text without an event changes no state; a version is chosen
 -- without an answer
@@ -186,7 +186,7 @@ lines_of bytes = without_empty_end (slice_split is_feed bytes)
 
 -- The version of a script
 
--- it is 2 if the first line is `audit 2`, and else 1
+-- it is 2 if the first line is `audit 2`, and otherwise 1
 abbrev pub version_of_script : List (List ℕ) → Version
 version_of_script [] = One
 version_of_script (l ∷ ls) = if bytes_eq l (codes "audit 2") then Two else One

@@ -7,7 +7,7 @@ use std::io;
 use std::io::{Eprint, Error, ErrorKind};
 use std::time::{Clock, Duration};
 
-/// What was printed, in the second that the test sets. Printing fails if the test says so.
+/// The printed lines, in the second that the test sets. Printing fails if the test says so.
 #[derive(Drop)]
 pub(super) struct Recorder {
     printed: RefCell<String>,
@@ -30,7 +30,7 @@ impl Recorder {
         self.second.set(Some(second));
     }
 
-    /// What was printed.
+    /// The printed lines.
     pub(super) fn printed(self) -> String {
         let Recorder {
             printed,

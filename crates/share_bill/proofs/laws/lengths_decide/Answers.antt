@@ -1,5 +1,5 @@
 use Rattle.share_bill.proofs.SeenLemmas.{replies-same, accounts-same, clients-same, totals-same}
-use Rattle.share_bill.proofs.SeenRowsLemmas.{rows-same}
+use Rattle.share_bill.proofs.SeenRowLemmas.{rows-same}
 use Rattle.share_bill.proofs.laws.lengths_decide.Goals as goal
 
 pub returns-clause-replies : goal.returns-clause-replies

@@ -14,15 +14,28 @@ returns-in_default-next_number c =
 
 pub returns-in_default-next_number-2 : goal.returns-in_default-next_number-2
 returns-in_default-next_number-2 c =
-    no_total (λ t. t.bytes) 2 8 _ (decimal c.in-Some.events ∷ decimal c.in-Some-next_number.packets ∷ []) _ (λ t is. is.bytes)
-    (c.in-Some.ensures.1 ∙ ap (λ ps. decimal c.in-Some.events ∷ ps) (c.in-Some-next_number.ensures.1)) refl refl c.in_default-next_number-2.ensures
+    no_total (λ t. t.bytes) 2 8 _ (decimal c.in-Some.events ∷ decimal c.in-Some-next_number.packets ∷ []) _
+    (λ t is. is.bytes)
+    (c.in-Some.ensures.1 ∙ ap (λ ps. decimal c.in-Some.events ∷ ps) (c.in-Some-next_number.ensures.1)) refl refl
+    c.in_default-next_number-2.ensures
 
 pub returns-in_default-next_number-3 : goal.returns-in_default-next_number-3
 returns-in_default-next_number-3 c =
-    no_total (λ t. t.units) 3 9 _ (decimal c.in-Some.events ∷ decimal c.in-Some-next_number.packets ∷ decimal c.in-Some-next_number-2.bytes ∷ []) _ (λ t is. is.units)
-    (c.in-Some.ensures.1 ∙ ap (λ ps. decimal c.in-Some.events ∷ ps) (c.in-Some-next_number.ensures.1 ∙ ap (λ ps. decimal c.in-Some-next_number.packets ∷ ps) (c.in-Some-next_number-2.ensures.1))) refl refl c.in_default-next_number-3.ensures
+    no_total (λ t. t.units) 3 9 _ (decimal c.in-Some.events ∷ decimal c.in-Some-next_number.packets
+    ∷ decimal c.in-Some-next_number-2.bytes ∷ []) _ (λ t is. is.units)
+    (c.in-Some.ensures.1 ∙ ap (λ ps. decimal c.in-Some.events ∷ ps)
+    (c.in-Some-next_number.ensures.1
+    ∙ ap (λ ps. decimal c.in-Some-next_number.packets ∷ ps) (c.in-Some-next_number-2.ensures.1))) refl refl
+    c.in_default-next_number-3.ensures
 
 pub returns-in_default-next_number-4 : goal.returns-in_default-next_number-4
 returns-in_default-next_number-4 c =
-    no_total (λ t. t.amount) 4 10 _ (decimal c.in-Some.events ∷ decimal c.in-Some-next_number.packets ∷ decimal c.in-Some-next_number-2.bytes ∷ decimal c.in-Some-next_number-3.units ∷ []) _ (λ t is. is.amount)
-    (c.in-Some.ensures.1 ∙ ap (λ ps. decimal c.in-Some.events ∷ ps) (c.in-Some-next_number.ensures.1 ∙ ap (λ ps. decimal c.in-Some-next_number.packets ∷ ps) (c.in-Some-next_number-2.ensures.1 ∙ ap (λ ps. decimal c.in-Some-next_number-2.bytes ∷ ps) (c.in-Some-next_number-3.ensures.1)))) refl refl c.in_default-next_number-4.ensures
+    no_total (λ t. t.amount) 4 10 _
+    (decimal c.in-Some.events ∷ decimal c.in-Some-next_number.packets ∷ decimal c.in-Some-next_number-2.bytes
+    ∷ decimal c.in-Some-next_number-3.units ∷ []) _ (λ t is. is.amount)
+    (c.in-Some.ensures.1 ∙ ap (λ ps. decimal c.in-Some.events ∷ ps)
+    (c.in-Some-next_number.ensures.1
+    ∙ ap (λ ps. decimal c.in-Some-next_number.packets ∷ ps)
+    (c.in-Some-next_number-2.ensures.1
+    ∙ ap (λ ps. decimal c.in-Some-next_number-2.bytes ∷ ps) (c.in-Some-next_number-3.ensures.1)))) refl refl
+    c.in_default-next_number-4.ensures

@@ -1,5 +1,5 @@
 use Rattle.std.proofs.Common.{refl, ◌∙◌}
-use Rattle.share_control.proofs.AttendsLemmas.{writes_none, writes_next}
+use Rattle.share_control.proofs.AttendingLemmas.{writes_none, writes_next}
 use Rattle.share_control.proofs.attending.answer_all.Goals as goal
 
 pub loop-init : goal.loop-init

@@ -1,8 +1,8 @@
 use Rattle.std.proofs.Common.{sym, ◌∙◌}
 use Rattle.share_model.specs.declared.reader.Got.TheVariants.{Bytes, End, Interrupted, Failed}
 use Rattle.share_control.specs.Attends.{attends_none}
-use Rattle.share_control.proofs.AttendsLemmas.{reads_on, reads_last, all_lost, one_lost}
-use Rattle.share_control.proofs.RequestsLemmas.{at_ok, at_err}
+use Rattle.share_control.proofs.AttendingLemmas.{reads_on, reads_last, all_lost, one_lost}
+use Rattle.share_control.proofs.RequestLemmas.{at_ok, at_err}
 use Rattle.share_control.proofs.attending.converse.Goals as goal
 
 pub loop-init : goal.loop-init
@@ -21,7 +21,8 @@ returns-then-is_err-2 g c =
 pub loop-preserved-in-Bytes : goal.loop-preserved-in-Bytes
 loop-preserved-in-Bytes g c =
     at_ok _ c.answer_all.result c.answer_all.ensures.answered (sym c.is_err.ensures.value ∙ c.if-is_err.false)
-    (λ x all. reads_on c.loop.invariant (Bytes c.in-Bytes.field-0) all c.answer_all.ensures.reader c.in-Bytes.ensures.came
+    (λ x all. reads_on c.loop.invariant (Bytes c.in-Bytes.field-0) all c.answer_all.ensures.reader
+    c.in-Bytes.ensures.came
     tt)
 
 pub loop-preserved : goal.loop-preserved

@@ -1,5 +1,5 @@
 use Rattle.std.proofs.Common.{refl, sym, ◌∙◌, inl, inr}
-use Rattle.share_control.proofs.RequestsLemmas.{at_ok, at_err, ready_in_hold}
+use Rattle.share_control.proofs.RequestLemmas.{at_ok, at_err, ready_in_hold}
 use Rattle.share_control.proofs.requests.change.Goals as goal
 
 pub returns-then-is_err : goal.returns-then-is_err

@@ -1,5 +1,5 @@
 use Rattle.std.proofs.Common.{◌∙◌}
-use Rattle.share_control.proofs.RequestsLemmas.{request_read}
+use Rattle.share_control.proofs.RequestLemmas.{request_read}
 use Rattle.share_control.proofs.requests.request_in.Goals as goal
 
 pub returns : goal.returns

@@ -1,5 +1,5 @@
 use Rattle.std.proofs.Common.{arith}
-use Rattle.share_model.proofs.lemmas.run.SoundLaws.{units-few, rate_of-in_range}
+use Rattle.share_model.proofs.lemmas.run.SoundLinkLemmas.{units-few, rate_of-in_range}
 use Rattle.share_model.specs.link.Tariff.{rate_of}
 use Rattle.share_core.proofs.books.post.Goals as goal
 

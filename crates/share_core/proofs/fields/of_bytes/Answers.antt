@@ -1,4 +1,4 @@
-use Rattle.share_model.proofs.lemmas.link.FieldLaws.{all_bytes}
+use Rattle.share_model.proofs.lemmas.link.FieldLemmas.{all_bytes}
 use Rattle.share_core.proofs.fields.of_bytes.Goals as goal
 
 pub returns : goal.returns

@@ -1,5 +1,5 @@
-use Rattle.share_core.proofs.Idles.{idle_is_done}
-use Rattle.share_core.proofs.Sendings.{sending-none}
+use Rattle.share_core.proofs.IdleLinkLemmas.{idle_is_done}
+use Rattle.share_core.proofs.NextWriteLemmas.{sending-none}
 use Rattle.share_core.proofs.laws.idle_links_are_done.Goals as goal
 
 pub returns-clause-done : goal.returns-clause-done

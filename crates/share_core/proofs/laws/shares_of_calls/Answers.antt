@@ -1,4 +1,4 @@
-use Rattle.share_model.proofs.lemmas.run.ChainLaws.{chain-shares}
+use Rattle.share_model.proofs.lemmas.run.ChainLemmas.{chain-shares}
 use Rattle.share_core.proofs.laws.shares_of_calls.Goals as goal
 
 pub returns : goal.returns

@@ -1,4 +1,4 @@
-use Rattle.share_model.proofs.lemmas.run.ReadingLaws.{tickets-within, tickets-plain}
+use Rattle.share_model.proofs.lemmas.run.TicketLemmas.{tickets-within, tickets-plain}
 use Rattle.share_core.proofs.laws.tickets_are_shares.Goals as goal
 
 pub returns-clause-within : goal.returns-clause-within

@@ -1,5 +1,5 @@
 use Rattle.std.proofs.Common.{◌+◌, ℕ, arith, sym, ap, ◌∙◌}
-use Rattle.share_downlink.proofs.DatagramsLemmas.{no_frame, not_frame, other_length, one_frame}
+use Rattle.share_downlink.proofs.DatagramLemmas.{no_frame, not_frame, other_length, one_frame}
 use Rattle.share_downlink.proofs.datagrams.whole_frame.Goals as goal
 
 pub returns-in-More : goal.returns-in-More

@@ -1,6 +1,6 @@
 use Rattle.std.proofs.Common.{◌∙◌, ap, sym}
 use Rattle.share_model.specs.link.Buffers.{is_buffer_of}
-use Rattle.share_flows.proofs.Apart.{by_place}
+use Rattle.share_flows.proofs.DistinctFlowLemmas.{by_place}
 use Rattle.share_flows.proofs.buffers.stands_at.Goals as goal
 
 pub returns-then-place-rings : goal.returns-then-place-rings

@@ -1,5 +1,5 @@
-use Rattle.share_model.proofs.lemmas.link.FrameLaws.{frame-prefix}
-use Rattle.share_frame.proofs.OneAnswer.{frame-proper, version-told}
+use Rattle.share_model.proofs.lemmas.link.FrameLemmas.{frame-prefix}
+use Rattle.share_frame.proofs.UniqueAnswerLemmas.{frame-proper, version-told}
 use Rattle.share_frame.proofs.laws.no_frame_begins_another.Goals as goal
 
 pub returns-clause-proper : goal.returns-clause-proper

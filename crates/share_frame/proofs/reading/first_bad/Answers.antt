@@ -1,7 +1,7 @@
 use Rattle.std.proofs.Common.{arith}
-use Rattle.share_frame.proofs.Order.{rank-few}
-use Rattle.share_frame.proofs.Bytes.{are_bytes}
-use Rattle.share_frame.proofs.Steps.{one_more_good, first_bad}
+use Rattle.share_frame.proofs.FieldOrderLemmas.{rank-few}
+use Rattle.share_frame.proofs.ByteLemmas.{are_bytes}
+use Rattle.share_frame.proofs.FieldReadingLemmas.{one_more_good, first_bad}
 use Rattle.share_frame.proofs.reading.first_bad.Goals as goal
 
 pub returns-then-not-is_good : goal.returns-then-not-is_good

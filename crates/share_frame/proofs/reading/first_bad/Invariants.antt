@@ -1,4 +1,4 @@
-use Rattle.share_frame.proofs.Steps.{AreGood}
+use Rattle.share_frame.proofs.FieldReadingLemmas.{AreGood}
 use Rattle.share_frame.proofs.reading.first_bad.Given as goal
 
 abbrev pub invariant-loop-place : goal.invariant-loop-place

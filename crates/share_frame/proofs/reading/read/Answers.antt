@@ -2,9 +2,9 @@ use Rattle.std.proofs.Common.{◌≡◌, ℕ, List, ap, ◌∙◌, arith}
 use Rattle.share_base.specs.declared.version.Version.{Version}
 use Rattle.share_frame.specs.Reading.{BeginsWithFrame}
 use Rattle.share_frame.specs.Fields.{number_in}
-use Rattle.share_frame.proofs.Bytes.{are_bytes}
-use Rattle.share_frame.proofs.Whole.{part-begins, whole-begins}
-use Rattle.share_frame.proofs.Filled.{good-begins}
+use Rattle.share_frame.proofs.ByteLemmas.{are_bytes}
+use Rattle.share_frame.proofs.WholeHeaderLemmas.{part-begins, whole-begins}
+use Rattle.share_frame.proofs.BeginningLemmas.{good-begins}
 use Rattle.share_frame.proofs.reading.read.Goals as goal
 
 -- less than a header, with nothing bad

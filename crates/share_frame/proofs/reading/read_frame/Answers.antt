@@ -2,7 +2,7 @@ use Rattle.std.proofs.Common.{ℕ}
 use Rattle.share_base.specs.declared.version.Version.TheVariants.{One}
 use Rattle.share_frame.specs.declared.reading.FrameRead.TheVariants.{Frame, More, Bad}
 use Rattle.share_frame.specs.Reading.{BeginsWithFrame}
-use Rattle.share_frame.proofs.OneAnswer.{read-exact, any_tariff}
+use Rattle.share_frame.proofs.UniqueAnswerLemmas.{read-exact, any_tariff}
 use Rattle.share_frame.proofs.reading.read_frame.Goals as goal
 
 -- the frame is one under any tariff

@@ -1,5 +1,5 @@
 use Rattle.share_frame.specs.declared.reading.FrameRead2.TheVariants.{Frame, More, Bad}
-use Rattle.share_frame.proofs.OneAnswer.{read-exact2}
+use Rattle.share_frame.proofs.UniqueAnswerLemmas.{read-exact2}
 use Rattle.share_frame.proofs.reading.read_frame2.Goals as goal
 
 pub returns-clause-frame : goal.returns-clause-frame

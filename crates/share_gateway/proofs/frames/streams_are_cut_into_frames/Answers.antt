@@ -1,4 +1,4 @@
-use Rattle.share_gateway.proofs.FramesLemmas.{frames_are, first_are, part_short}
+use Rattle.share_gateway.proofs.FrameLemmas.{frames_are, first_are, part_short}
 use Rattle.share_gateway.proofs.frames.streams_are_cut_into_frames.Goals as goal
 
 pub returns-clause-frames : goal.returns-clause-frames

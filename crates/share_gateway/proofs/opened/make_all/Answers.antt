@@ -24,7 +24,8 @@ loop-command-preserved g c =
     let made = c.in_ok-make.ensures.ok in (
       made.rest.life ∙ was.0,
       made.rest.rates ∙ was.1,
-      made-goes_on c.args.engine.now.rates c.args.plan.now c.args.engine.now.life c.loop-command.engine c.make.new.engine
+      made-goes_on c.args.engine.now.rates c.args.plan.now c.args.engine.now.life c.loop-command.engine
+          c.make.new.engine
           c.loop-command.commands was.1 was.2 c.requires.lasts c.in-Some.command c.next.new.self c.in-Some.ensures made,
     )
 
@@ -39,5 +40,6 @@ returns-in_err-make-clause-not g c =
 pub returns-clause-ok : goal.returns-clause-ok
 returns-clause-ok g c =
     let was = c.loop-command.invariant in
-    done-is_opened c.args.engine.now.rates c.args.plan.now c.args.engine.now.life c.loop-command.engine c.loop-command.engine
+    done-is_opened c.args.engine.now.rates c.args.plan.now c.args.engine.now.life c.loop-command.engine
+    c.loop-command.engine
     c.loop-command.commands was.1 was.2 c.requires.lasts was.0 c.in_default.ensures c.events.ensures.range

@@ -22,5 +22,6 @@ tenant_at-requires c =
 pub returns : goal.returns
 returns c =
     let size = ap length c.currencies-currencies.ensures.value in
-    grantee-mapped c.args.plan.now c.args.index (seen c.tenant_at.result) (omega (arith, size, c.if-index-currencies.false))
+    grantee-mapped c.args.plan.now c.args.index (seen c.tenant_at.result)
+    (omega (arith, size, c.if-index-currencies.false))
     (rw (← c.currencies-currencies.ensures.value, ← c.tenants.ensures.value) c.tenant_at.ensures)

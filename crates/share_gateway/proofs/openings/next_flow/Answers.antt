@@ -19,5 +19,6 @@ overflow_add-cursor-2 c =
     let is = ap (λ (ts : List TenantView). slice_get ts c.args.cursor.now.tenant) (sym c.tenants.ensures.value)
     ∙ get-item c.tenants.result.now c.args.cursor.now.tenant c.in_ok-tenant.tenant.now found.3.0 found.1 in
     let same = ap (λ (t : TenantView). t.flow) c.tenant.view_is in
-    let few = flow-within c.args.plan.now c.args.cursor.now.tenant c.in_ok-tenant.tenant.now c.tenants.ensures.limits is in
+    let few = flow-within c.args.plan.now c.args.cursor.now.tenant c.in_ok-tenant.tenant.now c.tenants.ensures.limits
+    is in
     omega (arith, same, few)

@@ -1,6 +1,6 @@
 use Rattle.std.proofs.lemmas.Bool.Decides.{Decides-eqb}
 use Rattle.std.proofs.lemmas.Slice.Eq.{slice_eq-Decides}
-use Rattle.share_gateway.proofs.RecordsLemmas.{other_by}
+use Rattle.share_gateway.proofs.RecordLemmas.{other_by}
 use Rattle.share_gateway.proofs.records.is_other.Goals as goal
 
 pub returns : goal.returns

@@ -1,4 +1,4 @@
-use Rattle.share_gateway.proofs.RecordsLemmas.{front_is, more_is, bad_is, part_short}
+use Rattle.share_gateway.proofs.RecordLemmas.{front_is, more_is, bad_is, part_short}
 use Rattle.share_gateway.proofs.records.streams_are_cut_into_records.Goals as goal
 
 pub returns-clause-front : goal.returns-clause-front

@@ -1,4 +1,4 @@
-use Rattle.share_ingress.proofs.Moves.{forks}
+use Rattle.share_ingress.proofs.QueueOrderLemmas.{forks}
 use Rattle.share_ingress.proofs.ends.another_end.Goals as goal
 
 pub another-own-requires-clause-rule : goal.another-own-requires-clause-rule

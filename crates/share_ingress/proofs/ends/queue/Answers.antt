@@ -1,7 +1,7 @@
 use Rattle.std.proofs.Common.{◌≡◌, arith, subst, sym}
 use Rattle.share_model.specs.lists.Each.{Each}
-use Rattle.share_ingress.proofs.Moves.{begins_empty}
-use Rattle.share_ingress.proofs.NewEnds.{of_workers, of_link}
+use Rattle.share_ingress.proofs.QueueOrderLemmas.{begins_empty}
+use Rattle.share_ingress.proofs.NewEndLemmas.{of_workers, of_link}
 use Rattle.share_ingress.proofs.ends.queue.Goals as goal
 
 pub ruled-requires-clause-rule : goal.ruled-requires-clause-rule

@@ -1,4 +1,4 @@
-use Rattle.share_ingress.proofs.StreamSteps.{each_has_records, records_are_one, records_in_front}
+use Rattle.share_ingress.proofs.StreamLemmas.{each_has_records, records_are_one, records_in_front}
 use Rattle.share_ingress.proofs.laws.streams_have_one_reading.Goals as goal
 
 pub returns-clause-some : goal.returns-clause-some

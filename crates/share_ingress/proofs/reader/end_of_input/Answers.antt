@@ -1,4 +1,4 @@
-use Rattle.share_ingress.proofs.ReaderSteps.{cut_held}
+use Rattle.share_ingress.proofs.ReaderLemmas.{cut_held}
 use Rattle.share_ingress.proofs.reader.end_of_input.Goals as goal
 
 pub returns-else-is_empty : goal.returns-else-is_empty

@@ -1,5 +1,5 @@
 use Rattle.std.proofs.Common.{arith}
-use Rattle.share_ingress.proofs.RecordSteps.{byte_below, length_cut, length_bad, payload_cut, record_whole}
+use Rattle.share_ingress.proofs.RecordLemmas.{byte_below, length_cut, length_bad, payload_cut, record_whole}
 use Rattle.share_ingress.proofs.record.after_name.Goals as goal
 
 pub returns-then-tail-lt2 : goal.returns-then-tail-lt2

@@ -1,4 +1,4 @@
-use Rattle.share_ingress.proofs.RecordSteps.{name_length_bad, name_cut, name_bad, named}
+use Rattle.share_ingress.proofs.RecordLemmas.{name_length_bad, name_cut, name_bad, named}
 use Rattle.share_ingress.proofs.record.first_record.Goals as goal
 
 pub returns-then-length-eq0 : goal.returns-then-length-eq0

@@ -1,7 +1,7 @@
 use Rattle.std.proofs.Common.{◌≡◌, length, arith}
 use Rattle.share_ingress.specs.Threads.{IsNotStarted, IsWorkDone}
-use Rattle.share_ingress.proofs.ThreadSteps.{begun_none, begun_more, joined_none, joined_more, joined_all, finished}
-use Rattle.share_ingress.proofs.ThreadSteps.{nil_of}
+use Rattle.share_ingress.proofs.ThreadLemmas.{begun_none, begun_more, joined_none, joined_more, joined_all, finished}
+use Rattle.share_ingress.proofs.ThreadLemmas.{nil_of}
 use Rattle.share_ingress.proofs.threads.run_in.Goals as goal
 
 pub loop-job-init : goal.loop-job-init

@@ -1,6 +1,6 @@
 use Rattle.std.proofs.Common.{◌≡◌, ◌≤◌, ◌+◌, [], MatchResult, vec_len, vec_capacity}
 use Rattle.share_ingress.specs.Threads.{IsJobDone, IsNotStarted}
-use Rattle.share_ingress.proofs.ThreadSteps.{AreBegun, Joined}
+use Rattle.share_ingress.proofs.ThreadLemmas.{AreBegun, Joined}
 use Rattle.share_ingress.proofs.threads.run_in.Given as goal
 
 abbrev pub invariant-loop-job : goal.invariant-loop-job

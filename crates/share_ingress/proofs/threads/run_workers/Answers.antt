@@ -2,7 +2,7 @@ use Rattle.std.proofs.Common.{◌≡◌, ◌∙◌, rules}
 use Rattle.std.proofs.lemmas.Result.{IfOk-weaker}
 use Rattle.share_model.specs.lists.Each.{Each}
 use Rattle.share_ingress.specs.Threads.{IsJobDone, Matches}
-use Rattle.share_ingress.proofs.ThreadSteps.{matches_more, each_matched, same_link}
+use Rattle.share_ingress.proofs.ThreadLemmas.{matches_more, each_matched, same_link}
 use Rattle.share_ingress.proofs.threads.run_workers.Goals as goal
 
 pub returns-clause-each : goal.returns-clause-each

@@ -1,6 +1,6 @@
 use Rattle.std.proofs.Common.{refl, ap, ◌∙◌}
 use Rattle.share_ingress.specs.Reader.{Reading}
-use Rattle.share_ingress.proofs.GateSteps.{waits_none, waits_more, drops, refused_more}
+use Rattle.share_ingress.proofs.GateLemmas.{waits_none, waits_more, drops, refused_more}
 use Rattle.share_ingress.proofs.workers.put.Goals as goal
 
 pub loop-init : goal.loop-init

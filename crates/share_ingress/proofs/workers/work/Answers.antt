@@ -1,6 +1,6 @@
 use Rattle.std.proofs.Common.{arith, refl}
-use Rattle.share_ingress.proofs.GateSteps.{running_none, running_more, ran_dropped, ran_over}
-use Rattle.share_ingress.proofs.WorkerSteps.{working_none, takes, worked_over, worked_dropped, working_more}
+use Rattle.share_ingress.proofs.GateLemmas.{running_none, running_more, ran_dropped, ran_over}
+use Rattle.share_ingress.proofs.WorkerLemmas.{working_none, takes, worked_over, worked_dropped, working_more}
 use Rattle.share_ingress.proofs.workers.work.Goals as goal
 
 pub loop-init : goal.loop-init

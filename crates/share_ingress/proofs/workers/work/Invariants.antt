@@ -1,5 +1,5 @@
-use Rattle.share_ingress.proofs.GateSteps.{HasQueuedSome}
-use Rattle.share_ingress.proofs.WorkerSteps.{Working}
+use Rattle.share_ingress.proofs.GateLemmas.{HasQueuedSome}
+use Rattle.share_ingress.proofs.WorkerLemmas.{Working}
 use Rattle.share_ingress.proofs.workers.work.Given as goal
 
 abbrev pub invariant-loop : goal.invariant-loop

@@ -1,6 +1,6 @@
 use Rattle.share_model.specs.declared.line.Line.TheVariants.{Audit}
 use Rattle.std.proofs.lemmas.Result.{err_from_is_err_and}
-use Rattle.share_model.proofs.lemmas.io.PrintingLaws.{write_longer, write_then}
+use Rattle.share_model.proofs.lemmas.io.PrintingLemmas.{write_longer, write_then}
 use Rattle.share_model.specs.text.Audit.{audit, written_line}
 use Rattle.share_journal.proofs.audit.write_audit.Goals as goal
 

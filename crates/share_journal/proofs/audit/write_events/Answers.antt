@@ -1,7 +1,7 @@
 use Rattle.std.proofs.Common.{◌≡◌, ◌∷◌}
 use Rattle.std.proofs.lemmas.Result.{err_from_is_err_and}
 use Rattle.share_model.specs.io.Calls.{no_offers}
-use Rattle.share_model.proofs.lemmas.io.CallsLaws.{offers_more, refused_later}
+use Rattle.share_model.proofs.lemmas.io.CallLemmas.{offers_more, refused_later}
 use Rattle.share_journal.proofs.AuditLemmas.{written_none, written_more, written_part}
 use Rattle.share_journal.proofs.audit.write_events.Goals as goal
 

@@ -1,4 +1,4 @@
-use Rattle.share_journal.proofs.ArrivalLaws.{arrivals_numbered, arrivals-arrival, arrivals-command, arrivals-turn}
+use Rattle.share_journal.proofs.ArrivalLemmas.{arrivals_numbered, arrivals-arrival, arrivals-command, arrivals-turn}
 use Rattle.share_journal.proofs.laws.arrivals_are_numbered.Goals as goal
 
 pub returns-clause-numbers : goal.returns-clause-numbers

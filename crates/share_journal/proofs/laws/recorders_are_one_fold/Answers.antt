@@ -1,7 +1,7 @@
 use Rattle.std.specs.Prelude.{◌≤◌, ℕ}
 use Rattle.std.proofs.Common.{ap, refl, subst, sym}
 use Rattle.share_model.specs.link.View.{LinkView}
-use Rattle.share_model.proofs.lemmas.run.HeadlineLaws.{headline}
+use Rattle.share_model.proofs.lemmas.run.HeadlineLemmas.{headline}
 use Rattle.share_model.specs.run.Sound.{max_life}
 use Rattle.share_journal.proofs.AuditLemmas.{told_bytes, told_counts}
 use Rattle.share_journal.proofs.laws.recorders_are_one_fold.Goals as goal

@@ -2,9 +2,9 @@ use Rattle.std.proofs.Common.{◌<◌, ◌≡◌, ℕ, false, cond, nat_eq, set,
 use Rattle.std.proofs.lemmas.Bool.Decides.{nat_tests}
 use Rattle.std.proofs.lemmas.List.{length-set}
 use Rattle.share_ledger.specs.Arrays.{flags_of, numbers_of}
-use Rattle.share_ledger.proofs.CyclePlaces.{backed-more}
-use Rattle.share_ledger.proofs.NetSteps.{array-set, next-above}
-use Rattle.share_ledger.proofs.StaleSteps.{order-above}
+use Rattle.share_ledger.proofs.CycleLemmas.{backed-more}
+use Rattle.share_ledger.proofs.WeightLemmas.{array-set, next-above}
+use Rattle.share_ledger.proofs.StalePlaceLemmas.{order-above}
 use Rattle.share_ledger.proofs.chains.backed_by.Goals as goal
 
 pub loop-i-init : goal.loop-i-init

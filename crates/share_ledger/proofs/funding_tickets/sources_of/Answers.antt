@@ -3,7 +3,7 @@ use Rattle.std.proofs.lemmas.List.{take_more}
 use Rattle.share_model.specs.lists.Each.{Each}
 use Rattle.share_ledger.specs.declared.funding_tickets.FundingTicket.{FundingTicket}
 use Rattle.share_ledger.specs.FundingTickets.{ComesFrom}
-use Rattle.share_ledger.proofs.FundingSources.{bits-more}
+use Rattle.share_ledger.proofs.FundingSourceLemmas.{bits-more}
 use Rattle.share_ledger.proofs.funding_tickets.sources_of.Goals as goal
 
 pub loop-funding_ticket-preserved : goal.loop-funding_ticket-preserved

@@ -1,11 +1,11 @@
 use Rattle.std.proofs.Common.{true, false, arith, set}
 use Rattle.share_ledger.specs.Arrays.{flags_of}
-use Rattle.share_ledger.proofs.NetSteps.{array-set, weight_from-woken, weight_from-rested, counted-bound}
+use Rattle.share_ledger.proofs.WeightLemmas.{array-set, weight_from-woken, weight_from-rested, counted-bound}
 use Rattle.share_ledger.proofs.net.flip.Goals as goal
 use Rattle.std.proofs.lemmas.Bool.Decides.{nat_tests}
 
-pub lower-requires-clause-held : goal.lower-requires-clause-held
-lower-requires-clause-held c = λ x below.
+pub subtract_all-requires-clause-held : goal.subtract_all-requires-clause-held
+subtract_all-requires-clause-held c = λ x below.
     let was = c.requires.counted x below in
     let moved = weight_from-rested _ _ c.requires.ticketed _ c.requires.place _
     c.funding_tickets_at-funding_tickets.ensures.value
@@ -17,7 +17,7 @@ lower-requires-clause-held c = λ x below.
 pub returns-then-awake-place-clause-counted : goal.returns-then-awake-place-clause-counted
 returns-then-awake-place-clause-counted c = λ x below.
     let was = c.requires.counted x below in
-    let now = c.lower.ensures x below in
+    let now = c.subtract_all.ensures x below in
     let moved = weight_from-rested _ _ c.requires.ticketed _ c.requires.place _
     c.funding_tickets_at-funding_tickets.ensures.value
     (flags_of c.args.awake.now) (flags_of (set c.args.awake.now c.args.place false)) c.if-awake-place.true
@@ -28,13 +28,13 @@ returns-then-awake-place-clause-counted c = λ x below.
 pub returns-then-awake-place-clause-left : goal.returns-then-awake-place-clause-left
 returns-then-awake-place-clause-left c = grind (arith, nat_tests)
 
-pub raise-requires-clause-small : goal.raise-requires-clause-small
-raise-requires-clause-small c = counted-bound _ _ _ _ c.is_kept.ensures c.requires.counted
+pub add_all-requires-clause-small : goal.add_all-requires-clause-small
+add_all-requires-clause-small c = counted-bound _ _ _ _ c.is_kept.ensures c.requires.counted
 
 pub returns-clause-counted : goal.returns-clause-counted
 returns-clause-counted c = λ x below.
     let was = c.requires.counted x below in
-    let now = c.raise.ensures x below in
+    let now = c.add_all.ensures x below in
     let moved = weight_from-woken _ _ c.requires.ticketed _ c.requires.place _
     c.funding_tickets_at-funding_tickets.ensures.value
     (flags_of c.args.awake.now) (flags_of (set c.args.awake.now c.args.place true)) c.if-awake-place.false

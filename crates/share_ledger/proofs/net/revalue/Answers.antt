@@ -1,8 +1,8 @@
 use Rattle.std.proofs.Common.{◌≤◌, ◌*◌, ◌^◌, ℕ, Bool, true, false, cond, nat_eq, set, sym, subst, ◌∙◌, arith}
 use Rattle.std.proofs.lemmas.List.{length-set}
 use Rattle.share_ledger.specs.Arrays.{flags_of, numbers_of}
-use Rattle.share_ledger.proofs.NetSteps.{array-set, valued-more, next-small}
-use Rattle.share_ledger.proofs.StaleSteps.{order-above}
+use Rattle.share_ledger.proofs.WeightLemmas.{array-set, valued-more, next-small}
+use Rattle.share_ledger.proofs.StalePlaceLemmas.{order-above}
 use Rattle.share_ledger.proofs.net.revalue.Goals as goal
 use Rattle.std.proofs.lemmas.Bool.Decides.{nat_tests}
 

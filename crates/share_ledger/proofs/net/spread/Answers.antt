@@ -4,8 +4,8 @@ use Rattle.std.proofs.lemmas.Bool.{eqb-true, cases_lt}
 use Rattle.share_ledger.specs.Ranks.{AreOrdered}
 use Rattle.share_ledger.specs.Arrays.{flags_of, numbers_of}
 use Rattle.share_ledger.specs.FundingTickets.{funding_tickets_at}
-use Rattle.share_ledger.proofs.NetSteps.{amount_from-none, next-spot, next-before, not-next}
-use Rattle.share_ledger.proofs.StaleSteps.{order-above}
+use Rattle.share_ledger.proofs.WeightLemmas.{amount_from-none, next-spot, next-before, not-next}
+use Rattle.share_ledger.proofs.StalePlaceLemmas.{order-above}
 use Rattle.share_ledger.proofs.net.spread.Goals as goal
 
 pub loop-i-preserved : goal.loop-i-preserved

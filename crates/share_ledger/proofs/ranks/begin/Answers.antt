@@ -1,4 +1,4 @@
-use Rattle.share_ledger.proofs.RankSteps.{ranks-begun}
+use Rattle.share_ledger.proofs.RankLemmas.{ranks-begun}
 use Rattle.share_ledger.proofs.ranks.begin.Goals as goal
 
 pub returns-clause-ranked : goal.returns-clause-ranked

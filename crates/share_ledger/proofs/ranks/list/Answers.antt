@@ -1,6 +1,6 @@
 use Rattle.std.proofs.Common.{◌≡◌, subst, arith}
 use Rattle.share_ledger.specs.Ranks.{AreRankedTo}
-use Rattle.share_ledger.proofs.RankSteps.{next-round, all-ranks, all-longest, all-more, all-listed, some-deep}
+use Rattle.share_ledger.proofs.RankLemmas.{next-round, all-ranks, all-longest, all-more, all-listed, some-deep}
 use Rattle.share_ledger.proofs.ranks.list.Goals as goal
 use Rattle.std.proofs.lemmas.Bool.Decides.{nat_tests}
 

@@ -1,4 +1,4 @@
-use Rattle.share_ledger.proofs.FundingChains.{never-tall}
+use Rattle.share_ledger.proofs.FundingChainLemmas.{never-tall}
 use Rattle.share_ledger.proofs.ranks.list_all.Goals as goal
 
 pub unreachable-requires : goal.unreachable-requires

@@ -1,8 +1,8 @@
 use Rattle.std.proofs.Common.{◌<◌, ◌∙◌, sym, arith}
-use Rattle.share_model.proofs.lemmas.lists.Laws.{each_map}
+use Rattle.share_model.proofs.lemmas.lists.FirstItemLemmas.{each_map}
 use Rattle.share_ledger.specs.declared.funding_tickets.FundingTicket.{FundingTicket}
 use Rattle.share_ledger.specs.FundingTickets.{funding_tickets_at, IsFundingTicketWithin}
-use Rattle.share_ledger.proofs.RankSteps.{placed, passed}
+use Rattle.share_ledger.proofs.RankLemmas.{placed, passed}
 use Rattle.share_ledger.proofs.ranks.rank_place.Goals as goal
 
 pub returns-then-not-is_due : goal.returns-then-not-is_due

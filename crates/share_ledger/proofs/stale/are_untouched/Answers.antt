@@ -1,7 +1,7 @@
 use Rattle.std.proofs.Common.{inl, inr, arith}
 use Rattle.std.proofs.lemmas.Bool.{leb-true, ltb-true}
 use Rattle.share_ledger.specs.Arrays.{flags_of}
-use Rattle.share_ledger.proofs.StaleStretches.{sources-more, untouched-stretch}
+use Rattle.share_ledger.proofs.StretchLemmas.{sources-more, untouched-stretch}
 use Rattle.share_ledger.proofs.stale.are_untouched.Goals as goal
 
 pub loop-i-preserved : goal.loop-i-preserved

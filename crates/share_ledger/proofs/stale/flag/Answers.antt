@@ -1,4 +1,4 @@
-use Rattle.share_ledger.proofs.FundingSources.{bits-flagged}
+use Rattle.share_ledger.proofs.FundingSourceLemmas.{bits-flagged}
 use Rattle.share_ledger.proofs.stale.flag.Goals as goal
 
 pub returns-then-flagged-clause-bits : goal.returns-then-flagged-clause-bits

@@ -1,6 +1,6 @@
 use Rattle.std.proofs.Common.{◌+◌, arith}
 use Rattle.share_ledger.specs.Arrays.{flags_of}
-use Rattle.share_ledger.proofs.StaleStretches.{untouched-more}
+use Rattle.share_ledger.proofs.StretchLemmas.{untouched-more}
 use Rattle.share_ledger.proofs.stale.next_touched.Goals as goal
 
 pub loop-place-preserved-then-are_untouched : goal.loop-place-preserved-then-are_untouched

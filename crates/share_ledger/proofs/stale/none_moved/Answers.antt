@@ -1,4 +1,4 @@
-use Rattle.share_ledger.proofs.FundingSources.{none-flagged}
+use Rattle.share_ledger.proofs.FundingSourceLemmas.{none-flagged}
 use Rattle.share_ledger.proofs.stale.none_moved.Goals as goal
 
 pub returns : goal.returns

@@ -2,8 +2,8 @@ use Rattle.std.proofs.Common.{◌≡◌, ◌<◌, ℕ, List, false, ap, arith}
 use Rattle.share_ledger.specs.Arrays.{flags_of, numbers_of}
 use Rattle.share_ledger.specs.Stale.{is_stale}
 use Rattle.share_ledger.specs.declared.stale.Moved.{Moved}
-use Rattle.share_ledger.proofs.NetSteps.{next-small}
-use Rattle.share_ledger.proofs.StaleSteps.{next-left, next-same, next-valued, order-above}
+use Rattle.share_ledger.proofs.WeightLemmas.{next-small}
+use Rattle.share_ledger.proofs.StalePlaceLemmas.{next-left, next-same, next-valued, order-above}
 use Rattle.share_ledger.proofs.stale.revalue.Goals as goal
 use Rattle.std.proofs.lemmas.Bool.Decides.{nat_tests}
 

@@ -1,6 +1,6 @@
 use Rattle.std.proofs.Common.{◌≡◌, ◌∙◌, sym, bit_and, nat_eq, not, ap, arith}
 use Rattle.share_ledger.specs.Arrays.{flags_of}
-use Rattle.share_ledger.proofs.FundingSources.{none-touched}
+use Rattle.share_ledger.proofs.FundingSourceLemmas.{none-touched}
 use Rattle.share_ledger.proofs.stale.touches.Goals as goal
 
 pub returns-else-sources-moved-ne0 : goal.returns-else-sources-moved-ne0

@@ -3,7 +3,7 @@ use Rattle.std.proofs.lemmas.List.Sorted.{answers_always}
 use Rattle.share_model.specs.declared.funding.Holder.TheVariants.{Nobody}
 use Rattle.share_model.specs.declared.funding.Ticket.{Ticket}
 use Rattle.share_model.specs.funding.Changes.{is_numbered}
-use Rattle.share_ledger.proofs.Numbers.{searched}
+use Rattle.share_ledger.proofs.NumberLemmas.{searched}
 use Rattle.share_ledger.proofs.tickets.by_halves.Goals as goal
 use Rattle.share_ledger.proofs.tickets.by_halves.Goals.{After-binary_search_by_key}
 

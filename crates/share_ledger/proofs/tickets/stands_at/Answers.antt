@@ -1,7 +1,7 @@
 use Rattle.std.proofs.Common.{◌≡◌, ℕ, nat_eq, IsTrue, sym, ◌∙◌, arith}
 use Rattle.std.proofs.lemmas.Bool.Decides.{nat_tests}
 use Rattle.share_model.specs.declared.funding.Ticket.{Ticket}
-use Rattle.share_ledger.proofs.Numbers.{stands-at}
+use Rattle.share_ledger.proofs.NumberLemmas.{stands-at}
 use Rattle.share_ledger.proofs.tickets.stands_at.Goals as goal
 
 equal : (m n : ℕ) → IsTrue (nat_eq m n) → n ≡ m

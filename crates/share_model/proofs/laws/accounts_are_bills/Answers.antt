@@ -1,4 +1,4 @@
-use Rattle.share_model.proofs.lemmas.run.BillLaws.{run-billed, run-past}
+use Rattle.share_model.proofs.lemmas.run.BillLemmas.{run-billed, run-past}
 use Rattle.share_model.proofs.laws.accounts_are_bills.Goals as goal
 
 pub returns-clause-account : goal.returns-clause-account

@@ -1,4 +1,4 @@
-use Rattle.share_model.proofs.lemmas.text.LackLaws.{talk-found}
+use Rattle.share_model.proofs.lemmas.text.NoMemoryLemmas.{talk-found}
 use Rattle.share_model.specs.text.Talk.{start_of_script}
 use Rattle.share_model.proofs.laws.answers_tell_lacks.Goals as goal
 

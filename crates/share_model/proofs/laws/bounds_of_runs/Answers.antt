@@ -1,4 +1,4 @@
-use Rattle.share_model.proofs.lemmas.run.BoundLaws.{run-clock, run-near, run-account, run-past_short}
+use Rattle.share_model.proofs.lemmas.run.BoundLemmas.{run-clock, run-near, run-account, run-past_short}
 use Rattle.share_model.proofs.laws.bounds_of_runs.Goals as goal
 
 pub returns-clause-clock : goal.returns-clause-clock

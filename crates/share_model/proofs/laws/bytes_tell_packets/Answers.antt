@@ -1,4 +1,4 @@
-use Rattle.share_model.proofs.lemmas.run.HistoryLaws.{run-frames, frames-unique, frames-tariffs, frames-version}
+use Rattle.share_model.proofs.lemmas.run.HistoryLemmas.{run-frames, frames-unique, frames-tariffs, frames-version}
 use Rattle.share_model.proofs.laws.bytes_tell_packets.Goals as goal
 
 pub returns-clause-frames : goal.returns-clause-frames

@@ -1,4 +1,4 @@
-use Rattle.share_model.proofs.lemmas.run.FoldLaws.{run-bytes}
+use Rattle.share_model.proofs.lemmas.run.EventLemmas.{run-bytes}
 use Rattle.share_model.proofs.laws.events_add_bytes.Goals as goal
 
 pub returns : goal.returns

@@ -2,7 +2,7 @@ use Rattle.std.specs.Prelude.{length}
 use Rattle.std.proofs.Common.{◌∙◌}
 use Rattle.std.proofs.Math.Nat.{zero-add}
 use Rattle.share_model.specs.run.Fold.{empty_state}
-use Rattle.share_model.proofs.lemmas.run.FoldLaws.{events-after, length-outcomes}
+use Rattle.share_model.proofs.lemmas.run.EventLemmas.{events-after, length-outcomes}
 use Rattle.share_model.proofs.laws.events_are_counted.Goals as goal
 
 pub returns-clause-count : goal.returns-clause-count

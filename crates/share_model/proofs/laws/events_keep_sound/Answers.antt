@@ -1,4 +1,4 @@
-use Rattle.share_model.proofs.lemmas.run.FoldLaws.{run-sound}
+use Rattle.share_model.proofs.lemmas.run.EventLemmas.{run-sound}
 use Rattle.share_model.proofs.laws.events_keep_sound.Goals as goal
 
 pub returns : goal.returns

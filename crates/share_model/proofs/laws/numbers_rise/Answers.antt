@@ -1,4 +1,4 @@
-use Rattle.share_model.proofs.lemmas.run.NumberLaws.{run-numbers, run-once}
+use Rattle.share_model.proofs.lemmas.run.SequenceNumberLemmas.{run-numbers, run-once}
 use Rattle.share_model.proofs.laws.numbers_rise.Goals as goal
 
 pub returns-clause-rise : goal.returns-clause-rise

@@ -1,4 +1,4 @@
-use Rattle.share_model.proofs.lemmas.run.PacketLaws.{run-waiting, run-broken, run-torn}
+use Rattle.share_model.proofs.lemmas.run.PacketLemmas.{run-waiting, run-broken, run-torn}
 use Rattle.share_model.proofs.laws.packets_are_kept.Goals as goal
 
 pub returns-clause-accepted : goal.returns-clause-accepted

@@ -1,4 +1,4 @@
-use Rattle.share_model.proofs.lemmas.run.AcceptedLaws.{run-accepted_packets, run-sent_first}
+use Rattle.share_model.proofs.lemmas.run.AcceptedPacketLemmas.{run-accepted_packets, run-sent_first}
 use Rattle.share_model.proofs.laws.packets_are_sent_as_accepted.Goals as goal
 
 pub returns-clause-open : goal.returns-clause-open

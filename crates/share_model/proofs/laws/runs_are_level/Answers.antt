@@ -1,4 +1,4 @@
-use Rattle.share_model.proofs.lemmas.run.BoundLaws.{run-level, run-with_level_queue}
+use Rattle.share_model.proofs.lemmas.run.BoundLemmas.{run-level, run-with_level_queue}
 use Rattle.share_model.proofs.laws.runs_are_level.Goals as goal
 
 pub returns-clause-level : goal.returns-clause-level

@@ -1,6 +1,6 @@
 use Rattle.std.specs.Prelude.{Some}
 use Rattle.std.proofs.Common.{refl}
-use Rattle.share_model.proofs.lemmas.run.HeadlineLaws.{headline}
+use Rattle.share_model.proofs.lemmas.run.HeadlineLemmas.{headline}
 use Rattle.share_model.proofs.laws.runs_are_one_fold.Goals as goal
 
 pub returns : goal.returns

@@ -1,5 +1,5 @@
-use Rattle.share_model.proofs.lemmas.text.EventsLaws.{after-state, after-writes, events-may_follow, talk-texts}
-use Rattle.share_model.proofs.lemmas.text.EventsLaws.{report-after}
+use Rattle.share_model.proofs.lemmas.text.EventLemmas.{after-state, after-writes, events-may_follow, talk-texts}
+use Rattle.share_model.proofs.lemmas.text.EventLemmas.{report-after}
 use Rattle.share_model.specs.text.Talk.{start_of_script}
 use Rattle.share_model.proofs.laws.scripts_are_runs.Goals as goal
 

@@ -1,6 +1,6 @@
 use Rattle.share_model.specs.run.Fold.{run}
-use Rattle.share_model.proofs.lemmas.run.FoldLaws.{run-sound}
-use Rattle.share_model.proofs.lemmas.funding.Shares.{shares-within}
+use Rattle.share_model.proofs.lemmas.run.EventLemmas.{run-sound}
+use Rattle.share_model.proofs.lemmas.funding.ShareLemmas.{shares-within}
 use Rattle.share_model.proofs.laws.shares_are_within_of_runs.Goals as goal
 
 pub returns : goal.returns

@@ -1,6 +1,6 @@
 use Rattle.share_model.specs.run.Fold.{run}
-use Rattle.share_model.proofs.lemmas.funding.IssueLaws.{tickets-uncapped}
-use Rattle.share_model.proofs.lemmas.run.FoldLaws.{run-sound}
+use Rattle.share_model.proofs.lemmas.funding.IssueLemmas.{tickets-uncapped}
+use Rattle.share_model.proofs.lemmas.run.EventLemmas.{run-sound}
 use Rattle.share_model.proofs.laws.tickets_are_uncapped_of_runs.Goals as goal
 
 pub returns : goal.returns

@@ -1,7 +1,7 @@
 use Rattle.std.proofs.Common.{◌<◌, arith}
 use Rattle.share_model.specs.io.Calls.{no_offers}
-use Rattle.share_model.proofs.lemmas.io.CallsLaws.{offered_once, offers_more}
-use Rattle.share_model.proofs.lemmas.io.Output.{put_none, put_more}
+use Rattle.share_model.proofs.lemmas.io.CallLemmas.{offered_once, offers_more}
+use Rattle.share_model.proofs.lemmas.io.OutputLemmas.{put_none, put_more}
 use Rattle.share_model.proofs.output.put.Goals as goal
 
 pub loop-at-init : goal.loop-at-init

@@ -1,6 +1,6 @@
 use Rattle.std.proofs.Common.{length, ◌-◌}
 use Rattle.share_model.specs.io.Calls.{Offers}
-use Rattle.share_model.proofs.lemmas.io.Output.{PutUpTo}
+use Rattle.share_model.proofs.lemmas.io.OutputLemmas.{PutUpTo}
 use Rattle.share_model.specs.io.Printing.{bytes_told}
 use Rattle.share_model.proofs.output.put.Given as goal
 

@@ -3,7 +3,7 @@ use Rattle.std.proofs.Common.{◌≡◌, [], ap, ◌∙◌, refl, rules}
 use Rattle.std.proofs.lemmas.Result.{err_from_is_err_and}
 use Rattle.share_model.specs.io.Told.{Told}
 use Rattle.share_model.specs.io.Calls.{read_to_end}
-use Rattle.share_model.proofs.lemmas.io.CallsLaws.{offers_more, refused_later}
+use Rattle.share_model.proofs.lemmas.io.CallLemmas.{offers_more, refused_later}
 use Rattle.share_runs.proofs.PrintoutLemmas.{over_new, ran_nothing, ran_part, ran_most, ran_whole}
 use Rattle.share_runs.proofs.PrintoutLemmas.{told_fault, found_none}
 use Rattle.share_script.specs.Script.{at_first}

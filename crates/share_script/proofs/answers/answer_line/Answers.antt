@@ -1,8 +1,8 @@
 use Rattle.std.proofs.Common.{subst}
 use Rattle.share_model.specs.io.Calls.{no_call}
 use Rattle.share_model.specs.text.Lines.{HasFields}
-use Rattle.share_model.proofs.lemmas.text.TalkLaws.{send-says, report-says}
-use Rattle.share_model.proofs.lemmas.text.TurnTalkLaws.{torn-says}
+use Rattle.share_model.proofs.lemmas.text.TalkLemmas.{send-says, report-says}
+use Rattle.share_model.proofs.lemmas.text.TurnTalkLemmas.{torn-says}
 use Rattle.share_script.proofs.AnswerLemmas.{as_said}
 use Rattle.share_script.proofs.CallLemmas.{arrive-called, tear-called}
 use Rattle.share_script.proofs.answers.answer_line.Goals as goal

@@ -1,9 +1,5 @@
-use Rattle.std.proofs.Common.{◌≡◌, true, false, Bool, subst, sym}
-use Rattle.share_model.specs.declared.line.Line.TheVariants.{Audit}
 use Rattle.share_model.specs.io.Calls.{no_call}
-use Rattle.share_model.specs.text.Answering.{AnswersLine}
-use Rattle.share_model.proofs.lemmas.text.TalkLaws.{audit-refused, audit-says}
-use Rattle.share_script.specs.Session.{answer_text}
+use Rattle.share_model.proofs.lemmas.text.TalkLemmas.{audit-refused, audit-says}
 use Rattle.share_script.proofs.answers.audit.Goals as goal
 
 pub returns-then-not-first-clause-says : goal.returns-then-not-first-clause-says

@@ -1,4 +1,4 @@
-use Rattle.share_model.proofs.lemmas.text.TalkLaws.{change-says}
+use Rattle.share_model.proofs.lemmas.text.TalkLemmas.{change-says}
 use Rattle.share_script.proofs.CallLemmas.{command-called}
 use Rattle.share_script.proofs.answers.change.Goals as goal
 

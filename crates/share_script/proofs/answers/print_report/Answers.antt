@@ -1,5 +1,5 @@
 use Rattle.std.proofs.lemmas.Result.{err_from_is_err_and}
-use Rattle.share_model.proofs.lemmas.io.CallsLaws.{offers_more, refused_later}
+use Rattle.share_model.proofs.lemmas.io.CallLemmas.{offers_more, refused_later}
 use Rattle.share_script.proofs.SpoolLemmas.{spooled_before, spooled_at_once, spooled_at_once_part}
 use Rattle.share_script.proofs.answers.print_report.Goals as goal
 

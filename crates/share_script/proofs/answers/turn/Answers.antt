@@ -1,5 +1,5 @@
 use Rattle.std.proofs.Common.{sym, ◌∙◌, refl}
-use Rattle.share_model.proofs.lemmas.text.TurnTalkLaws.{turn-says}
+use Rattle.share_model.proofs.lemmas.text.TurnTalkLemmas.{turn-says}
 use Rattle.share_script.proofs.AnswerLemmas.{never_torn}
 use Rattle.share_script.proofs.CallLemmas.{turn-called, torn-failed}
 use Rattle.share_script.proofs.answers.turn.Goals as goal

@@ -1,7 +1,7 @@
 use Rattle.std.proofs.Common.{ap, ◌∙◌}
 use Rattle.std.proofs.lemmas.Result.{err_from_is_err_and}
 use Rattle.share_model.specs.link.View.{LinkView}
-use Rattle.share_model.proofs.lemmas.io.CallsLaws.{offers_more}
+use Rattle.share_model.proofs.lemmas.io.CallLemmas.{offers_more}
 use Rattle.share_script.specs.Session.{answer_text}
 use Rattle.share_script.proofs.FeedLemmas.{printed_text, printed_text_part}
 use Rattle.share_script.proofs.StopLemmas.{stop_refused}

@@ -2,7 +2,7 @@ use Rattle.std.specs.Prelude.{Err}
 use Rattle.std.proofs.Common.{ap, refl}
 use Rattle.std.proofs.lemmas.Result.{err_from_is_err_and}
 use Rattle.share_model.specs.io.Calls.{read_to_end}
-use Rattle.share_model.proofs.lemmas.io.CallsLaws.{offers_more}
+use Rattle.share_model.proofs.lemmas.io.CallLemmas.{offers_more}
 use Rattle.share_script.specs.Script.{at_first, by_writer}
 use Rattle.share_script.proofs.RunLemmas.{run_nothing, run_whole, run_part, run_last}
 use Rattle.share_script.proofs.StopLemmas.{told_fault, stopped, stopped_as}

@@ -1,6 +1,6 @@
 use Rattle.std.specs.Prelude.{Err}
 use Rattle.std.proofs.Common.{ap, refl}
-use Rattle.share_model.proofs.lemmas.text.TalkLaws.{holds-empty}
+use Rattle.share_model.proofs.lemmas.text.TalkLemmas.{holds-empty}
 use Rattle.share_script.proofs.RunLemmas.{stands_first, printed_first, part_first, fold_first}
 use Rattle.share_script.proofs.StopLemmas.{told_fault, memory_first}
 use Rattle.share_script.proofs.script.run_script.Goals as goal

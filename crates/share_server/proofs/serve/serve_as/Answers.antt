@@ -9,6 +9,8 @@ returns-in-Ok g c =
       clerks = c.serve_all-ended.result.clerks.items;
       found = c.serve_all-ended.result.found;
       closed = c.close.result;
+      reasons = c.reasons-reasons.result;
       closing = c.close.ensures;
-      result_is = c.told.ensures;
+      result_is = c.told.ensures.result;
+      reason_is = c.told.ensures.reason;
     })

@@ -3,7 +3,7 @@ use Rattle.std.proofs.lemmas.Int.{to_z-of_z}
 use mir.Syntax.{w128}
 use Rattle.share_model.specs.stride.Moves.{remain_on}
 use Rattle.share_stride.specs.Fits.{IsWithin}
-use Rattle.share_stride.proofs.Division.{quotient_is, remain_on-same, remain_on-within}
+use Rattle.share_stride.proofs.DivisionLemmas.{quotient_is, remain_on-same, remain_on-within}
 use Rattle.share_stride.proofs.client.remain_on.Goals as goal
 use Rattle.share_stride.proofs.client.remain_on.Goals.{After-floor_quotient}
 

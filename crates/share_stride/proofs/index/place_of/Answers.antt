@@ -2,7 +2,7 @@ use Rattle.std.proofs.Common.{◌≡◌, ◌∙◌, ℕ, rules, IfOk, IfErr, get
 use Rattle.std.proofs.lemmas.List.{get_or_default}
 use Rattle.std.proofs.lemmas.List.Sorted.{answers_always}
 use Rattle.share_stride.specs.Index.{IsAt, IsGapFor}
-use Rattle.share_stride.proofs.IndexLaws.{searched}
+use Rattle.share_stride.proofs.IndexLemmas.{searched}
 use Rattle.share_stride.proofs.index.place_of.Goals as goal
 
 -- the closure returns a pair's flow

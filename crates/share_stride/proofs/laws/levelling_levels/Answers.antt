@@ -1,4 +1,4 @@
-use Rattle.share_model.proofs.lemmas.stride.LevelLaws.{levelled_is_level, level_stays}
+use Rattle.share_model.proofs.lemmas.stride.LevellingLemmas.{levelled_is_level, level_stays}
 use Rattle.share_stride.proofs.laws.levelling_levels.Goals as goal
 
 pub returns-clause-level : goal.returns-clause-level

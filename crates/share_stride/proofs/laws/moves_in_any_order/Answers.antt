@@ -1,4 +1,4 @@
-use Rattle.share_model.proofs.lemmas.stride.LevelLaws.{moves_in_any_order, levelled_in_any_order}
+use Rattle.share_model.proofs.lemmas.stride.LevellingLemmas.{moves_in_any_order, levelled_in_any_order}
 use Rattle.share_stride.proofs.laws.moves_in_any_order.Goals as goal
 
 pub returns-clause-moves : goal.returns-clause-moves

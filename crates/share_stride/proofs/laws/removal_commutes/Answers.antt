@@ -1,4 +1,4 @@
-use Rattle.share_model.proofs.lemmas.stride.LevelLaws.{removal_commutes, removal_commutes_with_level}
+use Rattle.share_model.proofs.lemmas.stride.LevellingLemmas.{removal_commutes, removal_commutes_with_level}
 use Rattle.share_stride.proofs.laws.removal_commutes.Goals as goal
 
 pub returns-clause-moves : goal.returns-clause-moves

@@ -1,7 +1,7 @@
-use Rattle.share_model.proofs.lemmas.stride.MoveLaws.{is_there}
+use Rattle.share_model.proofs.lemmas.stride.MoveLemmas.{is_there}
 use Rattle.share_stride.specs.Table.{client_at}
 use Rattle.share_stride.specs.Queue.{state_of}
-use Rattle.share_stride.proofs.Soundness.{IsInStep-charge, stride_fits, place_fits}
+use Rattle.share_stride.proofs.SoundQueueLemmas.{IsInStep-charge, stride_fits, place_fits}
 use Rattle.share_stride.proofs.moves.charge.Goals as goal
 
 pub charge-requires-clause-stride : goal.charge-requires-clause-stride

@@ -1,10 +1,10 @@
 use Rattle.std.proofs.Common.{sym, subst, arith}
-use Rattle.share_model.proofs.lemmas.stride.MoveLaws.{is_there}
-use Rattle.share_model.proofs.lemmas.stride.SoundLaws.{total_small}
+use Rattle.share_model.proofs.lemmas.stride.MoveLemmas.{is_there}
+use Rattle.share_model.proofs.lemmas.stride.SoundQueueLemmas.{total_small}
 use Rattle.share_stride.specs.Table.{client_at}
 use Rattle.share_stride.specs.Queue.{AreInStep, state_of}
-use Rattle.share_stride.proofs.Soundness.{AreInStep-after_update, IsInStep-after_join, pass_fits, stride_is}
-use Rattle.share_stride.proofs.Soundness.{remain_fits}
+use Rattle.share_stride.proofs.SoundQueueLemmas.{AreInStep-after_update, IsInStep-after_join, pass_fits, stride_is}
+use Rattle.share_stride.proofs.SoundQueueLemmas.{remain_fits}
 use Rattle.share_stride.proofs.moves.join.Goals as goal
 
 pub enter-requires-clause-pass : goal.enter-requires-clause-pass

@@ -1,9 +1,9 @@
 use Rattle.std.proofs.Common.{sym, subst, arith}
-use Rattle.share_model.proofs.lemmas.stride.MoveLaws.{is_there}
-use Rattle.share_model.proofs.lemmas.stride.SoundLaws.{tickets_le_total}
+use Rattle.share_model.proofs.lemmas.stride.MoveLemmas.{is_there}
+use Rattle.share_model.proofs.lemmas.stride.SoundQueueLemmas.{tickets_le_total}
 use Rattle.share_stride.specs.Table.{client_at}
 use Rattle.share_stride.specs.Queue.{AreInStep, state_of}
-use Rattle.share_stride.proofs.Soundness.{AreInStep-after_update, IsInStep-after_leave, pass_fits, ahead_fits}
+use Rattle.share_stride.proofs.SoundQueueLemmas.{AreInStep-after_update, IsInStep-after_leave, pass_fits, ahead_fits}
 use Rattle.share_stride.proofs.moves.leave.Goals as goal
 
 pub leave-requires-clause-pass : goal.leave-requires-clause-pass

@@ -1,10 +1,11 @@
 use Rattle.std.proofs.Common.{sym, subst, arith, ap, ◌∙◌}
-use Rattle.share_model.proofs.lemmas.stride.MoveLaws.{is_there}
-use Rattle.share_model.proofs.lemmas.stride.SoundLaws.{total_small, tickets_le_total}
+use Rattle.share_model.proofs.lemmas.stride.MoveLemmas.{is_there}
+use Rattle.share_model.proofs.lemmas.stride.SoundQueueLemmas.{total_small, tickets_le_total}
 use Rattle.share_stride.specs.Table.{client_at}
 use Rattle.share_stride.specs.Queue.{AreInStep, state_of}
-use Rattle.share_stride.proofs.Soundness.{AreInStep-after_update, IsInStep-modified, modified_is, updated_is, pass_fits}
-use Rattle.share_stride.proofs.Soundness.{stride_is, pass_distance_fits}
+use Rattle.share_stride.proofs.SoundQueueLemmas.{AreInStep-after_update, IsInStep-modified, modified_is, updated_is}
+use Rattle.share_stride.proofs.SoundQueueLemmas.{pass_fits}
+use Rattle.share_stride.proofs.SoundQueueLemmas.{stride_is, pass_distance_fits}
 use Rattle.share_stride.proofs.moves.modify.Goals as goal
 
 pub modify-before-requires-clause-pass : goal.modify-before-requires-clause-pass

@@ -1,9 +1,9 @@
 use Rattle.std.proofs.Common.{None, sym, ap, ◌∙◌, set, rules}
 use Rattle.std.specs.Prelude.{FitsSigned}
 use mir.Syntax.{w128}
-use Rattle.share_stride.proofs.RankLaws.{entry_of-read, entry_of-idle}
-use Rattle.share_stride.proofs.Seats.{set_same}
-use Rattle.share_stride.proofs.HeapLaws.{stands_none}
+use Rattle.share_stride.proofs.RankLemmas.{entry_of-read, entry_of-idle}
+use Rattle.share_stride.proofs.SeatLemmas.{set_same}
+use Rattle.share_stride.proofs.HeapLemmas.{stands_none}
 use Rattle.share_stride.proofs.table.shift.Goals as goal
 
 pub returns-then-slot : goal.returns-then-slot

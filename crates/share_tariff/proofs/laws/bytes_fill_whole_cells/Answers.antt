@@ -1,5 +1,5 @@
 use Rattle.std.proofs.Common.{refl}
-use Rattle.share_tariff.proofs.Cells.{whole-cells}
+use Rattle.share_tariff.proofs.CellLemmas.{whole-cells}
 use Rattle.share_tariff.proofs.laws.bytes_fill_whole_cells.Goals as goal
 
 pub returns-clause-none : goal.returns-clause-none

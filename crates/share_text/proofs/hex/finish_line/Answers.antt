@@ -1,6 +1,6 @@
 use Rattle.share_text.specs.Printing.{digits_or_hyphen}
 use Rattle.std.proofs.lemmas.Result.{err_from_is_err_and}
-use Rattle.share_model.proofs.lemmas.io.PrintingLaws.{write_longer, write_then}
+use Rattle.share_model.proofs.lemmas.io.PrintingLemmas.{write_longer, write_then}
 use Rattle.share_text.proofs.hex.finish_line.Goals as goal
 
 pub returns-in_err-put_digits : goal.returns-in_err-put_digits

@@ -1,6 +1,6 @@
 use Rattle.std.proofs.Common.{codes}
 use Rattle.std.proofs.lemmas.Result.{err_from_is_err_and}
-use Rattle.share_model.proofs.lemmas.io.PrintingLaws.{write_longer, write_then}
+use Rattle.share_model.proofs.lemmas.io.PrintingLemmas.{write_longer, write_then}
 use Rattle.share_text.proofs.hex.print_bytes.Goals as goal
 
 pub returns-in_err-put : goal.returns-in_err-put

@@ -1,7 +1,7 @@
 use Rattle.std.proofs.Common.{◌≤◌, ◌+◌, arith, length}
 use Rattle.std.proofs.lemmas.Result.{err_from_is_err_and}
 use Rattle.share_model.specs.io.Calls.{no_offers}
-use Rattle.share_model.proofs.lemmas.io.CallsLaws.{offers_more, refused_later}
+use Rattle.share_model.proofs.lemmas.io.CallLemmas.{offers_more, refused_later}
 use Rattle.share_text.proofs.HexLemmas.{hex_none, hex_more, hex_part}
 use Rattle.share_text.proofs.hex.put_hex.Goals as goal
 

@@ -5,7 +5,7 @@ use Rattle.std.proofs.Math.Seq.{drop-append_seam}
 use Rattle.share_model.specs.text.Lines.{payload_of}
 use Rattle.share_text.proofs.payload.decode_behind.Goals as goal
 
--- what is written behind the first bytes, up to the end, is what is behind them
+-- the bytes that are written after the first ones, up to the end, are those after them
 behind : (bytes written : List ℕ) → 17 ≤ length bytes
     → drop 17 (take 17 bytes ++ (written ++ drop (length bytes - 17) (drop 17 bytes))) ≡ written
 behind bytes written room =

@@ -1,5 +1,5 @@
 use Rattle.std.proofs.Common.{◌≤◌, ◌+◌, arith, length, Some}
-use Rattle.share_model.proofs.lemmas.link.FieldLaws.{all_bytes}
+use Rattle.share_model.proofs.lemmas.link.FieldLemmas.{all_bytes}
 use Rattle.share_text.proofs.HexLemmas.{hex_none, hex_more}
 use Rattle.share_text.proofs.spelling.push_hex.Goals as goal
 

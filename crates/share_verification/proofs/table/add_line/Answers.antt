@@ -15,5 +15,6 @@ returns-in-Ok-push c = record {
   added = c.in-Ok-push.ensures.items;
   is = c.in-Ok.ensures.row.0;
   spelled = c.in-Ok.ensures.row.1;
-  after = ap (λ rs. follows rs c.in-Ok.row) (sym c.as_slice.ensures.value) ∙ sym c.follows.ensures ∙ c.if-not-follows.false;
+  after = ap (λ rs. follows rs c.in-Ok.row) (sym c.as_slice.ensures.value) ∙ sym c.follows.ensures
+      ∙ c.if-not-follows.false;
 }

@@ -2,7 +2,7 @@ use Rattle.std.proofs.Common.{ℕ, List}
 use Rattle.share_disk.specs.OpenText.{HasText}
 use Rattle.share_writer.proofs.writer.write_some.Given as goal
 
--- what the text had, it has
+-- the text keeps its bytes
 abbrev pub invariant-tries : goal.invariant-tries
 invariant-tries g l =
     (goal.iterator-tries g).can_next l.iterator' × (goal.iterator-tries g).is_finite l.iterator'

@@ -3,7 +3,7 @@ use Rattle.share_bill.specs.Bills.{row_with}
 use Rattle.share_bill.specs.Sums.{sums_at}
 use Rattle.share_bill.specs.declared.bill.running.TenantBill.{TenantBill}
 use Rattle.share_bill.specs.declared.bill.running.TenantFlow.{TenantFlow}
-use Rattle.share_bill.proofs.RowsLemmas.{values-more}
+use Rattle.share_bill.proofs.RowLemmas.{values-more}
 use Rattle.share_bill.proofs.bill.running.rows_of.Goals as goal
 
 pub loop-tenant-preserved : goal.loop-tenant-preserved

@@ -2,7 +2,7 @@ use Rattle.std.proofs.Common.{refl, ap, sym, ◌∙◌, ◌++◌, ◌∷◌, [],
 use Rattle.std.proofs.lemmas.List.{append-nil, take_more}
 use Rattle.share_bill.specs.declared.bill.running.TenantBill.{TenantBill}
 use Rattle.share_bill.specs.Totals.{name_of, row_name, each_once, figures_and, figures_of, figures_with, with_name}
-use Rattle.share_bill.proofs.TotalsLemmas.{names-more, figures-more}
+use Rattle.share_bill.proofs.TotalLemmas.{names-more, figures-more}
 use Rattle.share_bill.proofs.bill.total.add_rows.Goals as goal
 
 pub loop-row-preserved : goal.loop-row-preserved

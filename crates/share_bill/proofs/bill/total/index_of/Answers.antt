@@ -2,7 +2,7 @@ use Rattle.std.proofs.Common.{sym, ◌∙◌}
 use Rattle.std.specs.Str.{bytes_eq}
 use Rattle.std.proofs.lemmas.List.Sums.{position_or_len_is}
 use Rattle.share_bill.specs.declared.bill.total.TenantTotal.{TenantTotal}
-use Rattle.share_bill.proofs.TotalsLemmas.{index-none}
+use Rattle.share_bill.proofs.TotalLemmas.{index-none}
 use Rattle.share_bill.proofs.bill.total.index_of.Goals as goal
 
 pub returns-then-eq : goal.returns-then-eq

@@ -3,8 +3,8 @@ use Rattle.share_core.specs.Room.{has_room}
 use Rattle.share_model.specs.link.Buffers.{count_in, pop_in}
 use Rattle.share_model.specs.link.Calls.{is_spent}
 use Rattle.share_model.specs.link.View.{LinkView}
-use Rattle.share_model.proofs.lemmas.link.TurnLaws.{events-below}
-use Rattle.share_journal.proofs.Runs.{run-sound}
+use Rattle.share_model.proofs.lemmas.link.TurnLemmas.{events-below}
+use Rattle.share_journal.proofs.RunLemmas.{run-sound}
 use Rattle.share_book.specs.Closed.{ClosedView}
 use Rattle.share_gateway.specs.PlanChanges.{tenant_flow}
 use Rattle.share_book.proofs.CarryLemmas.{part-more, part-stops, part-all, spent-carried, textless-carried, due-some}

@@ -2,8 +2,8 @@ use Rattle.std.proofs.Common.{◌≤◌, ap, ◌∙◌, subst, sym, position, fi
 use Rattle.share_model.specs.declared.link.Book.{Book}
 use Rattle.share_model.specs.link.Tariff.{rate_at}
 use Rattle.share_model.specs.link.Books.{is_book_of, units_by, with_units, books_with_units}
-use Rattle.share_core.specs.Held.{IfFound}
-use Rattle.share_flows.proofs.PlaceLaws.{changed, found}
+use Rattle.share_core.specs.Found.{IfFound}
+use Rattle.share_flows.proofs.FirstItemLemmas.{changed, found}
 use Rattle.share_core.proofs.books.Books.charge_at.Goals as goal
 
 pub post-requires-clause-known : goal.post-requires-clause-known

@@ -1,7 +1,7 @@
 use Rattle.std.proofs.Common.{◌∙◌, ap, position}
 use Rattle.std.specs.Set.{remove_key}
 use Rattle.share_model.specs.link.Books.{is_book_of}
-use Rattle.share_flows.proofs.PlaceLaws.{taken}
+use Rattle.share_flows.proofs.FirstItemLemmas.{taken}
 use Rattle.share_core.proofs.books.Books.close.Goals as goal
 
 pub returns : goal.returns

@@ -1,6 +1,6 @@
 use Rattle.std.proofs.Common.{◌∙◌, ap, position}
 use Rattle.share_model.specs.link.Books.{is_book_of, with_hold, books_with_hold}
-use Rattle.share_flows.proofs.PlaceLaws.{changed}
+use Rattle.share_flows.proofs.FirstItemLemmas.{changed}
 use Rattle.share_core.proofs.books.Books.hold.Goals as goal
 
 pub returns : goal.returns

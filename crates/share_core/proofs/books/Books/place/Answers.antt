@@ -1,6 +1,6 @@
 use Rattle.std.proofs.Common.{◌∙◌, ap, sym, subst, IsSome, position, true≢false}
 use Rattle.share_model.specs.link.Books.{is_book_of}
-use Rattle.share_flows.proofs.PlaceLaws.{some_place}
+use Rattle.share_flows.proofs.FirstItemLemmas.{some_place}
 use Rattle.share_core.proofs.books.Books.place.Goals as goal
 
 pub unreachable-requires : goal.unreachable-requires

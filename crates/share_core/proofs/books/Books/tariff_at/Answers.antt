@@ -1,6 +1,6 @@
 use Rattle.std.proofs.Common.{◌∙◌, ap, find, position, sym}
 use Rattle.share_model.specs.link.Books.{is_book_of, tariff_in}
-use Rattle.share_flows.proofs.PlaceLaws.{found}
+use Rattle.share_flows.proofs.FirstItemLemmas.{found}
 use Rattle.share_core.proofs.books.Books.tariff_at.Goals as goal
 
 pub returns : goal.returns

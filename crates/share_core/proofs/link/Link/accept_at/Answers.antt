@@ -1,9 +1,9 @@
 use Rattle.std.proofs.Common.{◌∙◌, refl, sym, true}
-use Rattle.share_model.proofs.lemmas.run.QueueLaws.{queue-later}
-use Rattle.share_core.proofs.Activities.{stays-active, stays-level, can-set_active, free_in, still_in}
-use Rattle.share_core.proofs.Arrivals.{few_numbers, refused_full, took_number, sound-came, body_in}
-use Rattle.share_core.proofs.Living.{living}
-use Rattle.share_core.proofs.Standing.{buffered_at, stands_in}
+use Rattle.share_model.proofs.lemmas.run.QueueLemmas.{queue-later}
+use Rattle.share_core.proofs.ActivityLemmas.{stays-active, stays-level, can-set_active, free_in, still_in}
+use Rattle.share_core.proofs.ArrivalLemmas.{few_numbers, refused_full, took_number, sound-came, body_in}
+use Rattle.share_core.proofs.LifeLemmas.{living}
+use Rattle.share_core.proofs.BufferPlaceLemmas.{buffered_at, stands_in}
 use Rattle.share_core.proofs.link.Link.accept_at.Goals as goal
 use Rattle.share_core.proofs.link.Link.accept_at.Goals.{then-wakes, else-wakes}
 

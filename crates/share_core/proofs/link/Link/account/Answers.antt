@@ -1,5 +1,5 @@
 use Rattle.std.proofs.Common.{◌<◌, ◌^◌, sym, arith}
-use Rattle.share_model.proofs.lemmas.run.SoundLaws.{book-account}
+use Rattle.share_model.proofs.lemmas.run.SoundLinkLemmas.{book-account}
 use Rattle.share_core.proofs.link.Link.account.Goals as goal
 
 pub returns-clause-small : goal.returns-clause-small

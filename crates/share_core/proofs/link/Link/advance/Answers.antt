@@ -1,7 +1,7 @@
 use Rattle.std.proofs.Common.{◌≡◌, false, subst, sym}
 use Rattle.share_model.specs.link.View.{LinkView}
-use Rattle.share_core.proofs.Living.{living}
-use Rattle.share_core.proofs.Writes.{sent, within, sound-advance}
+use Rattle.share_core.proofs.LifeLemmas.{living}
+use Rattle.share_core.proofs.SentFrameLemmas.{sent, within, sound-advance}
 use Rattle.share_core.proofs.link.Link.advance.Goals as goal
 
 pub invariant_of-self : goal.invariant_of-self

@@ -1,7 +1,7 @@
 use Rattle.std.proofs.Common.{◌∙◌, sym, subst, IsSome}
 use Rattle.share_model.specs.link.Buffers.{buffer_of}
 use Rattle.share_model.specs.link.View.{LinkView}
-use Rattle.share_core.proofs.Arrivals.{buffered}
+use Rattle.share_core.proofs.ArrivalLemmas.{buffered}
 use Rattle.share_core.proofs.link.Link.arrive.Goals as goal
 
 pub accept-requires-clause-there : goal.accept-requires-clause-there

@@ -1,5 +1,5 @@
 use Rattle.share_model.specs.funding.Changes.{flow_named}
-use Rattle.share_core.proofs.Arrivals.{free-there}
+use Rattle.share_core.proofs.ArrivalLemmas.{free-there}
 use Rattle.share_core.proofs.link.Link.arrive_at.Goals as goal
 
 pub accept-requires-clause-there : goal.accept-requires-clause-there

@@ -1,11 +1,11 @@
 use Rattle.std.proofs.Common.{◌∙◌, ap, sym, arith}
 use Rattle.share_model.specs.link.Commands.{waiting_of}
 use Rattle.share_model.specs.link.View.{LinkView}
-use Rattle.share_model.proofs.lemmas.stride.LevelLaws.{is_there-level_one}
-use Rattle.share_model.proofs.lemmas.run.SoundCloseLaws.{sound-close_flow}
-use Rattle.share_core.proofs.Arrivals.{stands-joined, stands-buffered, stands-booked}
-use Rattle.share_core.proofs.Closings.{closable, levelled-idle, can-close, past_few}
-use Rattle.share_core.proofs.Living.{living}
+use Rattle.share_model.proofs.lemmas.stride.LevellingLemmas.{is_there-level_one}
+use Rattle.share_model.proofs.lemmas.run.SoundClosingLemmas.{sound-close_flow}
+use Rattle.share_core.proofs.ArrivalLemmas.{stands-joined, stands-buffered, stands-booked}
+use Rattle.share_core.proofs.ClosingLemmas.{closable, levelled-idle, can-close, past_few}
+use Rattle.share_core.proofs.LifeLemmas.{living}
 use Rattle.share_core.proofs.link.Link.close.Goals as goal
 
 pub level-requires-clause-there : goal.level-requires-clause-there

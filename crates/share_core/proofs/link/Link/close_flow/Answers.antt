@@ -2,7 +2,7 @@ use Rattle.std.proofs.Common.{◌∙◌, ap, option_map, sym}
 use Rattle.share_model.specs.declared.funding.OpenFlow.{OpenFlow}
 use Rattle.share_model.specs.funding.Changes.{flow_named}
 use Rattle.share_model.specs.link.View.{LinkView}
-use Rattle.share_core.proofs.Arrivals.{open_stands}
+use Rattle.share_core.proofs.ArrivalLemmas.{open_stands}
 use Rattle.share_core.proofs.link.Link.close_flow.Goals as goal
 
 pub close-requires-clause-may : goal.close-requires-clause-may

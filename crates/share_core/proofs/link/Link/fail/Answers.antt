@@ -1,8 +1,8 @@
 use Rattle.std.proofs.Common.{◌≡◌, false, subst, sym}
 use Rattle.share_model.specs.link.View.{LinkView}
-use Rattle.share_core.proofs.Living.{living}
-use Rattle.share_core.proofs.Standing.{booked_at, stands_in}
-use Rattle.share_core.proofs.Writes.{sent, known, posts, out_few, joined, clock, sound-fail}
+use Rattle.share_core.proofs.LifeLemmas.{living}
+use Rattle.share_core.proofs.BufferPlaceLemmas.{booked_at, stands_in}
+use Rattle.share_core.proofs.SentFrameLemmas.{sent, known, posts, out_few, joined, clock, sound-fail}
 use Rattle.share_core.proofs.link.Link.fail.Goals as goal
 
 pub charge_at-units-requires-clause-there : goal.charge_at-units-requires-clause-there

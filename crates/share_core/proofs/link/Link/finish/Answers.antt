@@ -1,11 +1,11 @@
 use Rattle.std.proofs.Common.{◌≡◌, ◌≤◌, ◌∙◌, true, false, refl, subst, sym}
 use Rattle.share_model.specs.link.View.{LinkView}
-use Rattle.share_model.proofs.lemmas.run.SoundLaws.{units_due-few}
-use Rattle.share_core.proofs.Living.{living}
-use Rattle.share_core.proofs.Standing.{booked_at, stands_in}
-use Rattle.share_core.proofs.Writes.{sent, within, known, posts, short, joined, clock, busy}
-use Rattle.share_core.proofs.Writes.{charged-level, charged-can, due-stays, activity-stays, sound-finish}
-use Rattle.share_core.proofs.Writes.{left, finished}
+use Rattle.share_model.proofs.lemmas.run.SoundLinkLemmas.{units_due-few}
+use Rattle.share_core.proofs.LifeLemmas.{living}
+use Rattle.share_core.proofs.BufferPlaceLemmas.{booked_at, stands_in}
+use Rattle.share_core.proofs.SentFrameLemmas.{sent, within, known, posts, short, joined, clock, busy}
+use Rattle.share_core.proofs.SentFrameLemmas.{charged-level, charged-can, due-stays, activity-stays, sound-finish}
+use Rattle.share_core.proofs.SentFrameLemmas.{left, finished}
 use Rattle.share_core.proofs.link.Link.finish.Goals as goal
 use Rattle.share_core.proofs.link.Link.finish.Goals.{then-not-is_busy_at, else-not-is_busy_at}
 

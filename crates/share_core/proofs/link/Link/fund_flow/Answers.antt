@@ -1,7 +1,7 @@
 use Rattle.std.proofs.Common.{refl}
 use Rattle.share_base.specs.declared.command.Command.TheVariants.{FundFlow}
-use Rattle.share_core.proofs.Fundings.{sound-done, can-level, level-before}
-use Rattle.share_core.proofs.Living.{living}
+use Rattle.share_core.proofs.FundingLemmas.{sound-done, can-level, level-before}
+use Rattle.share_core.proofs.LifeLemmas.{living}
 use Rattle.share_core.proofs.link.Link.fund_flow.Goals as goal
 
 pub level-requires-clause-can : goal.level-requires-clause-can

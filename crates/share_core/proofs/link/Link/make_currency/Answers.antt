@@ -1,7 +1,7 @@
 use Rattle.std.proofs.Common.{refl, inr}
 use Rattle.share_base.specs.declared.command.Command.TheVariants.{MakeCurrency}
-use Rattle.share_core.proofs.Living.{living}
-use Rattle.share_core.proofs.Unmoved.{AreUnmoved, kept-unmoved, sound-unmoved, steps-unmoved}
+use Rattle.share_core.proofs.LifeLemmas.{living}
+use Rattle.share_core.proofs.UnchangedTicketLemmas.{AreUnmoved, kept-unmoved, sound-unmoved, steps-unmoved}
 use Rattle.share_core.proofs.link.Link.make_currency.Goals as goal
 
 pub returns-in-Ok : goal.returns-in-Ok

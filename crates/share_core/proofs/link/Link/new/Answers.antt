@@ -1,8 +1,8 @@
 use Rattle.std.proofs.Common.{◌≡◌, None, arith, refl}
 use Rattle.std.proofs.lemmas.Bool.Decides.{nat_tests}
-use Rattle.share_model.proofs.lemmas.run.SoundStepLaws.{sound-empty}
+use Rattle.share_model.proofs.lemmas.run.SoundCommandLemmas.{sound-empty}
 use Rattle.share_core.specs.Life.{life_refusal}
-use Rattle.share_core.proofs.Unmet.{refused-memory}
+use Rattle.share_core.proofs.NoMemoryLemmas.{refused-memory}
 use Rattle.share_core.proofs.link.Link.new.Goals as goal
 
 pub invariant_of-result : goal.invariant_of-result

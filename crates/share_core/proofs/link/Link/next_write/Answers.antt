@@ -4,13 +4,13 @@ use Rattle.share_model.specs.link.Books.{is_book_of, tariff_of}
 use Rattle.share_model.specs.link.Buffers.{head_of}
 use Rattle.share_model.specs.link.Turns.{sending_at}
 use Rattle.share_model.specs.link.View.{LinkView}
-use Rattle.share_model.proofs.lemmas.run.SoundLaws.{tariff-shelf}
+use Rattle.share_model.proofs.lemmas.run.SoundLinkLemmas.{tariff-shelf}
 use Rattle.share_flows.specs.Places.{Stands}
-use Rattle.share_flows.proofs.PlaceLaws.{is_found}
+use Rattle.share_flows.proofs.FirstItemLemmas.{is_found}
 use Rattle.share_core.specs.declared.next_write.NextWrite.{NextWrite}
 use Rattle.share_core.specs.NextWrite.{IsNextWriteOf}
-use Rattle.share_core.proofs.Sendings.{head_placed}
-use Rattle.share_core.proofs.Standing.{booked_at}
+use Rattle.share_core.proofs.NextWriteLemmas.{head_placed}
+use Rattle.share_core.proofs.BufferPlaceLemmas.{booked_at}
 use Rattle.share_core.proofs.link.Link.next_write.Goals as goal
 
 pub tariff_at-requires : goal.tariff_at-requires

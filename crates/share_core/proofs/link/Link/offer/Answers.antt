@@ -1,10 +1,10 @@
 use Rattle.std.proofs.Common.{◌-◌, ◌∙◌, ap, arith}
 use Rattle.share_base.specs.declared.version.Version.TheVariants.{One, Two}
 use Rattle.share_model.specs.link.Frame.{header}
-use Rattle.share_model.proofs.lemmas.run.SoundLaws.{sending-length, sending-short}
+use Rattle.share_model.proofs.lemmas.run.SoundLinkLemmas.{sending-length, sending-short}
 use Rattle.share_core.specs.declared.next_write.NextWrite.{NextWrite}
-use Rattle.share_core.proofs.Turns.{header-told}
-use Rattle.share_core.proofs.Writes.{sent}
+use Rattle.share_core.proofs.TurnLemmas.{header-told}
+use Rattle.share_core.proofs.SentFrameLemmas.{sent}
 use Rattle.share_core.proofs.link.Link.offer.Goals as goal
 
 pub overflow_sub-payload : goal.overflow_sub-payload

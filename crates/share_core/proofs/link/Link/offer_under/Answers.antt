@@ -4,10 +4,10 @@ use Rattle.share_model.specs.io.Told.{Fits}
 use Rattle.share_model.specs.link.Frame.{Packet}
 use Rattle.share_model.specs.link.Turns.{Sending, sending, rest_of, frame_of}
 use Rattle.share_model.specs.link.View.{LinkView}
-use Rattle.share_model.proofs.lemmas.run.SoundLaws.{sending-few}
+use Rattle.share_model.proofs.lemmas.run.SoundLinkLemmas.{sending-few}
 use Rattle.share_core.specs.declared.next_write.NextWrite.{NextWrite}
-use Rattle.share_core.proofs.Turns.{for_sent, sent_head, sent_bytes, header-long}
-use Rattle.share_core.proofs.Writes.{sent}
+use Rattle.share_core.proofs.TurnLemmas.{for_sent, sent_head, sent_bytes, header-long}
+use Rattle.share_core.proofs.SentFrameLemmas.{sent}
 use Rattle.share_core.proofs.link.Link.offer_under.Goals as goal
 
 pub offer_at-requires-clause-head : goal.offer_at-requires-clause-head

@@ -1,12 +1,12 @@
 use Rattle.std.proofs.Common.{◌≡◌, ◌∙◌, None, ap, refl, sym, subst, arith}
 use Rattle.std.specs.FinMap.{get}
 use Rattle.share_model.specs.link.Buffers.{buffer_of}
-use Rattle.share_model.proofs.lemmas.run.SoundStepLaws.{sound-open_flow}
-use Rattle.share_core.proofs.Arrivals.{book_count}
-use Rattle.share_core.proofs.Living.{living}
-use Rattle.share_core.proofs.Openings.{added, next-unjoined, next-unbuffered, open_in-found, close_in-open_in}
-use Rattle.share_core.proofs.Openings.{found_none}
-use Rattle.share_core.proofs.Openings.{can-open, allowed-room, queue-room, allowed_of}
+use Rattle.share_model.proofs.lemmas.run.SoundCommandLemmas.{sound-open_flow}
+use Rattle.share_core.proofs.ArrivalLemmas.{book_count}
+use Rattle.share_core.proofs.LifeLemmas.{living}
+use Rattle.share_core.proofs.OpeningLemmas.{added, next-unjoined, next-unbuffered, open_in-found, close_in-open_in}
+use Rattle.share_core.proofs.OpeningLemmas.{found_none}
+use Rattle.share_core.proofs.OpeningLemmas.{can-open, allowed-room, queue-room, allowed_of}
 use Rattle.share_core.proofs.link.Link.open_allowed.Goals as goal
 
 pub open-requires : goal.open-requires

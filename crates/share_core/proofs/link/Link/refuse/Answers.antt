@@ -1,5 +1,5 @@
-use Rattle.share_model.proofs.lemmas.run.SoundStepLaws.{sound-with_one_event}
-use Rattle.share_core.proofs.Living.{living}
+use Rattle.share_model.proofs.lemmas.run.SoundCommandLemmas.{sound-with_one_event}
+use Rattle.share_core.proofs.LifeLemmas.{living}
 use Rattle.share_core.proofs.link.Link.refuse.Goals as goal
 
 pub invariant_of-self : goal.invariant_of-self

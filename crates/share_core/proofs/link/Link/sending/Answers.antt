@@ -2,7 +2,7 @@ use Rattle.std.proofs.Common.{◌∙◌, ap, sym}
 use Rattle.share_model.specs.link.Buffers.{head_of}
 use Rattle.share_model.specs.stride.Moves.{next}
 use Rattle.share_model.specs.link.View.{LinkView}
-use Rattle.share_core.proofs.Sendings.{sending-part, sending-next, sending-none, sending_placed}
+use Rattle.share_core.proofs.NextWriteLemmas.{sending-part, sending-next, sending-none, sending_placed}
 use Rattle.share_core.proofs.link.Link.sending.Goals as goal
 
 pub returns-in-Some : goal.returns-in-Some

@@ -1,12 +1,12 @@
 use Rattle.std.proofs.Common.{◌∙◌, ◌&&◌, ap, not, sym}
 use Rattle.share_model.specs.link.Buffers.{is_busy}
 use Rattle.share_model.specs.link.View.{LinkView}
-use Rattle.share_model.proofs.lemmas.run.QueueLaws.{queue-later}
-use Rattle.share_model.proofs.lemmas.run.SoundHoldLaws.{sound-hold_flow}
-use Rattle.share_core.proofs.Activities.{can-set_active}
-use Rattle.share_core.proofs.Arrivals.{stands-booked}
-use Rattle.share_core.proofs.Holds.{stands_in}
-use Rattle.share_core.proofs.Living.{living}
+use Rattle.share_model.proofs.lemmas.run.QueueLemmas.{queue-later}
+use Rattle.share_model.proofs.lemmas.run.SoundHoldLemmas.{sound-hold_flow}
+use Rattle.share_core.proofs.ActivityLemmas.{can-set_active}
+use Rattle.share_core.proofs.ArrivalLemmas.{stands-booked}
+use Rattle.share_core.proofs.HoldLemmas.{stands_in}
+use Rattle.share_core.proofs.LifeLemmas.{living}
 use Rattle.share_core.proofs.link.Link.set_held.Goals as goal
 
 pub hold-requires : goal.hold-requires

@@ -1,4 +1,4 @@
-use Rattle.share_core.proofs.Tallies.{torn_within}
+use Rattle.share_core.proofs.WaitingPacketLemmas.{torn_within}
 use Rattle.share_core.proofs.link.Link.waiting.Goals as goal
 
 pub overflow_sub-result-3 : goal.overflow_sub-result-3

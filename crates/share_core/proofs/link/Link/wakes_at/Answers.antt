@@ -1,4 +1,4 @@
-use Rattle.share_core.proofs.Standing.{booked_at, stands_in}
+use Rattle.share_core.proofs.BufferPlaceLemmas.{booked_at, stands_in}
 use Rattle.share_core.proofs.link.Link.wakes_at.Goals as goal
 
 pub is_held_at-requires : goal.is_held_at-requires

@@ -1,8 +1,8 @@
 use Rattle.std.proofs.Common.{arith, length, refl}
 use Rattle.share_model.specs.link.Live.{tickets_of_all}
-use Rattle.share_core.proofs.Levellings.{tickets_of_all-count, left-can, left-none, done-start, changed-next}
-use Rattle.share_core.proofs.Levellings.{changed-to}
-use Rattle.share_core.proofs.Levellings.{kept-all, kept-distinct, tickets-count}
+use Rattle.share_core.proofs.LevellingLemmas.{tickets_of_all-count, left-can, left-none, done-start, changed-next}
+use Rattle.share_core.proofs.LevellingLemmas.{changed-to}
+use Rattle.share_core.proofs.LevellingLemmas.{kept-all, kept-distinct, tickets-count}
 use Rattle.share_core.proofs.link.levelling.level.Goals as goal
 
 pub loop-changed-init : goal.loop-changed-init

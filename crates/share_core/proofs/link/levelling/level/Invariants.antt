@@ -1,6 +1,6 @@
 use Rattle.std.proofs.Common.{◌≤◌, ◌-◌, length}
 use Rattle.share_model.specs.link.Live.{tickets_of_all}
-use Rattle.share_core.proofs.Levellings.{AreDoneChanged}
+use Rattle.share_core.proofs.LevellingLemmas.{AreDoneChanged}
 use Rattle.share_core.proofs.link.levelling.level.Given as goal
 
 abbrev pub invariant-loop-changed : goal.invariant-loop-changed

@@ -1,6 +1,7 @@
 use Rattle.std.proofs.Common.{arith}
 use Rattle.share_model.specs.link.Live.{tickets_of_all}
-use Rattle.share_core.proofs.Levellings.{tickets_of_all-count, left-can, left-none, done-start, done-next, kept-all}
+use Rattle.share_core.proofs.LevellingLemmas.{tickets_of_all-count, left-can, left-none, done-start, done-next}
+use Rattle.share_core.proofs.LevellingLemmas.{kept-all}
 use Rattle.share_core.proofs.link.levelling.level_from_scratch.Goals as goal
 
 pub loop-place-init : goal.loop-place-init

@@ -1,5 +1,5 @@
 use Rattle.share_model.specs.link.Live.{tickets_of_all}
-use Rattle.share_core.proofs.Levellings.{AreDone}
+use Rattle.share_core.proofs.LevellingLemmas.{AreDone}
 use Rattle.share_core.proofs.link.levelling.level_from_scratch.Given as goal
 
 abbrev pub invariant-loop-place : goal.invariant-loop-place

@@ -1,4 +1,4 @@
-use Rattle.share_core.proofs.Levellings.{level-settled}
+use Rattle.share_core.proofs.LevellingLemmas.{level-settled}
 use Rattle.share_core.proofs.link.levelling.set_active.Goals as goal
 
 pub level-requires-clause-levelled_with : goal.level-requires-clause-levelled_with

@@ -1,5 +1,5 @@
 use Rattle.std.proofs.Common.{◌∙◌}
-use Rattle.share_core.proofs.Payloads.{backlog_as}
+use Rattle.share_core.proofs.PayloadLemmas.{backlog_as}
 use Rattle.share_core.proofs.payload_buffers.PayloadBuffers.backlog.Goals as goal
 
 pub returns : goal.returns

@@ -1,5 +1,5 @@
 use Rattle.std.proofs.Common.{◌∙◌}
-use Rattle.share_core.proofs.Payloads.{some_in, count_as, closed_as}
+use Rattle.share_core.proofs.PayloadLemmas.{some_in, count_as, closed_as}
 use Rattle.share_core.proofs.payload_buffers.PayloadBuffers.close.Goals as goal
 
 pub close-requires : goal.close-requires

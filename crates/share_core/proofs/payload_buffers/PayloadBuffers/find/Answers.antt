@@ -1,4 +1,4 @@
-use Rattle.share_core.proofs.Payloads.{found_out}
+use Rattle.share_core.proofs.PayloadLemmas.{found_out}
 use Rattle.share_core.proofs.payload_buffers.PayloadBuffers.find.Goals as goal
 
 pub returns : goal.returns

@@ -1,4 +1,4 @@
-use Rattle.share_core.proofs.Payloads.{stands_in, head_out}
+use Rattle.share_core.proofs.PayloadLemmas.{stands_in, head_out}
 use Rattle.share_core.proofs.payload_buffers.PayloadBuffers.head_at.Goals as goal
 
 pub head_at-requires : goal.head_at-requires

@@ -1,5 +1,5 @@
 use Rattle.std.proofs.Common.{◌∙◌, sym}
-use Rattle.share_core.proofs.Payloads.{busy_in}
+use Rattle.share_core.proofs.PayloadLemmas.{busy_in}
 use Rattle.share_core.proofs.payload_buffers.PayloadBuffers.is_busy.Goals as goal
 
 pub returns : goal.returns

@@ -1,5 +1,5 @@
 use Rattle.std.proofs.Common.{◌∙◌, sym}
-use Rattle.share_core.proofs.Payloads.{stands_in, busy_in}
+use Rattle.share_core.proofs.PayloadLemmas.{stands_in, busy_in}
 use Rattle.share_core.proofs.payload_buffers.PayloadBuffers.is_busy_at.Goals as goal
 
 pub is_busy_at-requires : goal.is_busy_at-requires

@@ -1,5 +1,5 @@
 use Rattle.std.proofs.Common.{◌∙◌}
-use Rattle.share_core.proofs.Payloads.{count_as}
+use Rattle.share_core.proofs.PayloadLemmas.{count_as}
 use Rattle.share_core.proofs.payload_buffers.PayloadBuffers.len.Goals as goal
 
 pub returns : goal.returns

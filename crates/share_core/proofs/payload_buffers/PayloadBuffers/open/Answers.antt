@@ -1,4 +1,4 @@
-use Rattle.share_core.proofs.Payloads.{none_in, opened_out, same_out}
+use Rattle.share_core.proofs.PayloadLemmas.{none_in, opened_out, same_out}
 use Rattle.share_core.proofs.payload_buffers.PayloadBuffers.open.Goals as goal
 
 pub open-requires : goal.open-requires

@@ -1,5 +1,5 @@
 use Rattle.std.proofs.Common.{◌∙◌, refl, sym}
-use Rattle.share_core.proofs.Payloads.{stands_in, stands_out, busy_in, popped_out, popped_as}
+use Rattle.share_core.proofs.PayloadLemmas.{stands_in, stands_out, busy_in, popped_out, popped_as}
 use Rattle.share_core.proofs.payload_buffers.PayloadBuffers.pop_at.Goals as goal
 
 pub pop_at-requires-clause-there : goal.pop_at-requires-clause-there

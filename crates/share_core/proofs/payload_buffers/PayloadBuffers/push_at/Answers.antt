@@ -1,4 +1,4 @@
-use Rattle.share_core.proofs.Payloads.{stands_in, numbers_in, pushed_out, full_back}
+use Rattle.share_core.proofs.PayloadLemmas.{stands_in, numbers_in, pushed_out, full_back}
 use Rattle.share_core.proofs.payload_buffers.PayloadBuffers.push_at.Goals as goal
 
 pub push_at-requires-clause-there : goal.push_at-requires-clause-there

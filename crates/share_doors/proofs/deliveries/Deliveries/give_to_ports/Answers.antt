@@ -1,6 +1,6 @@
 use Rattle.std.proofs.Common.{refl, ◌∙◌, arith}
 use Rattle.share_doors.specs.Deliveries.{PortIsGiven}
-use Rattle.share_doors.proofs.DeliveriesLemmas.{given_all, given_at, given_none}
+use Rattle.share_doors.proofs.DeliveryLemmas.{given_all, given_at, given_none}
 use Rattle.share_doors.proofs.deliveries.Deliveries.give_to_ports.Goals as goal
 
 pub keys-init : goal.keys-init
@@ -14,5 +14,6 @@ keys-preserved c = (
 
 pub returns-clause-each : goal.returns-clause-each
 returns-clause-each c =
-    given_all PortIsGiven refl c.keys.key c.args.ports.now c.keys.ports (omega (arith, c.capacity-key-end.ensures.slots))
+    given_all PortIsGiven refl c.keys.key c.args.ports.now c.keys.ports
+    (omega (arith, c.capacity-key-end.ensures.slots))
     c.keys.invariant.1

@@ -1,6 +1,6 @@
 use Rattle.std.proofs.Common.{◌≡◌}
 use Rattle.share_doors.specs.Deliveries.{PortIsGiven}
-use Rattle.share_doors.proofs.DeliveriesLemmas.{GivenBelow}
+use Rattle.share_doors.proofs.DeliveryLemmas.{GivenBelow}
 use Rattle.share_doors.proofs.deliveries.Deliveries.give_to_ports.Given as goal
 
 abbrev pub invariant-keys : goal.invariant-keys

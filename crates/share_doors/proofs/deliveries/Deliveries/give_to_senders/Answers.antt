@@ -1,6 +1,6 @@
 use Rattle.std.proofs.Common.{refl, ◌∙◌, arith}
 use Rattle.share_doors.specs.Deliveries.{SenderIsGiven}
-use Rattle.share_doors.proofs.DeliveriesLemmas.{given_all, given_at, given_none}
+use Rattle.share_doors.proofs.DeliveryLemmas.{given_all, given_at, given_none}
 use Rattle.share_doors.proofs.deliveries.Deliveries.give_to_senders.Goals as goal
 
 pub keys-init : goal.keys-init
@@ -9,10 +9,12 @@ keys-init c = (refl, given_none SenderIsGiven _ _ refl)
 pub keys-preserved : goal.keys-preserved
 keys-preserved c = (
   c.give_to_sender.ensures.same ∙ c.keys.invariant.0,
-  given_at SenderIsGiven _ _ _ _ c.keys.invariant.1 c.give_to_sender.ensures.one.here c.give_to_sender.ensures.one.others,
+  given_at SenderIsGiven _ _ _ _ c.keys.invariant.1 c.give_to_sender.ensures.one.here
+      c.give_to_sender.ensures.one.others,
 )
 
 pub returns-clause-each : goal.returns-clause-each
 returns-clause-each c =
-    given_all SenderIsGiven refl c.keys.key c.args.senders.now c.keys.senders (omega (arith, c.capacity-key-end.ensures.slots))
+    given_all SenderIsGiven refl c.keys.key c.args.senders.now c.keys.senders
+    (omega (arith, c.capacity-key-end.ensures.slots))
     c.keys.invariant.1

@@ -1,5 +1,5 @@
 use Rattle.share_doors.specs.Fills.{no_drop}
-use Rattle.share_doors.proofs.FillsLemmas.{drops_none, drops_then}
+use Rattle.share_doors.proofs.FillLemmas.{drops_none, drops_then}
 use Rattle.share_doors.proofs.door.Door.discard.Goals as goal
 
 pub returns-then-not-self : goal.returns-then-not-self

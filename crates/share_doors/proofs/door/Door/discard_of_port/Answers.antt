@@ -1,4 +1,4 @@
-use Rattle.share_doors.proofs.FillsLemmas.{drops_none, drops_packet, drops_unread}
+use Rattle.share_doors.proofs.FillLemmas.{drops_none, drops_packet, drops_unread}
 use Rattle.share_doors.proofs.door.Door.discard_of_port.Goals as goal
 
 pub returns-in_default : goal.returns-in_default

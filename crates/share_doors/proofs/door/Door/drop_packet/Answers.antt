@@ -1,4 +1,4 @@
-use Rattle.share_doors.proofs.FillsLemmas.{drops_packet, drops_unread}
+use Rattle.share_doors.proofs.FillLemmas.{drops_packet, drops_unread}
 use Rattle.share_doors.proofs.door.Door.drop_packet.Goals as goal
 
 pub returns-in-Dropped : goal.returns-in-Dropped

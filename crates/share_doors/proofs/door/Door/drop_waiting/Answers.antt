@@ -1,5 +1,5 @@
 use Rattle.share_doors.specs.Fills.{no_drop}
-use Rattle.share_doors.proofs.FillsLemmas.{drops_then}
+use Rattle.share_doors.proofs.FillLemmas.{drops_then}
 use Rattle.share_doors.proofs.door.Door.drop_waiting.Goals as goal
 
 pub packets-init : goal.packets-init

@@ -3,7 +3,8 @@ use Rattle.share_doors.specs.Door.{DoorView}
 use Rattle.share_doors.specs.Fills.{Fills, nothing}
 use Rattle.share_doors.specs.Takes.{nothing as takes_nothing}
 use Rattle.share_doors.specs.declared.door.Filled.TheVariants.{Full}
-use Rattle.share_doors.proofs.FillsLemmas.{fills_same, fills_takes, fills_tenant, fills_then, has_room, is_room, no_room}
+use Rattle.share_doors.proofs.FillLemmas.{fills_same, fills_takes, fills_tenant, fills_then, has_room, is_room}
+use Rattle.share_doors.proofs.FillLemmas.{no_room}
 use Rattle.share_doors.proofs.door.Door.fill.Goals as goal
 
 pub returns-then-not-self-clause-book : goal.returns-then-not-self-clause-book
@@ -27,7 +28,8 @@ packets-preserved g c = (
 
 pub serve_next-requires : goal.serve_next-requires
 serve_next-requires g c =
-    has_room c.has_room.result c.packets.book.audited c.self-in-packets.inside.tenant _ c.has_room.ensures (search rules)
+    has_room c.has_room.result c.packets.book.audited c.self-in-packets.inside.tenant _ c.has_room.ensures
+    (search rules)
     (ap (λ (d : DoorView). d.tenant) c.self-in-packets.view_is)
 
 pub returns-then-not-has_room-clause-same : goal.returns-then-not-has_room-clause-same

@@ -1,4 +1,4 @@
-use Rattle.share_doors.proofs.FillsLemmas.{drops_none}
+use Rattle.share_doors.proofs.FillLemmas.{drops_none}
 use Rattle.share_doors.proofs.door.Door.remove_port.Goals as goal
 
 pub returns-in_err-port : goal.returns-in_err-port

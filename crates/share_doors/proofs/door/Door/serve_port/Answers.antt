@@ -1,5 +1,5 @@
 use Rattle.std.proofs.Common.{refl}
-use Rattle.share_doors.proofs.FillsLemmas.{fills_no_payload, fills_nothing, fills_of_port, fills_unread}
+use Rattle.share_doors.proofs.FillLemmas.{fills_no_payload, fills_nothing, fills_of_port, fills_unread}
 use Rattle.share_doors.proofs.door.Door.serve_port.Goals as goal
 
 pub returns-in_default-clause-counted : goal.returns-in_default-clause-counted
@@ -26,10 +26,13 @@ returns-in-Dropped-clause-counted g c =
     c.in-Dropped.ensures.gives.1
 
 pub returns-in-More-clause-counted : goal.returns-in-More-clause-counted
-returns-in-More-clause-counted g c = fills_unread _ _ _ _ _ c.self.view_is c.in-More.ensures.gives.0 c.in-More.ensures.gives.1
+returns-in-More-clause-counted g c =
+    fills_unread _ _ _ _ _ c.self.view_is c.in-More.ensures.gives.0 c.in-More.ensures.gives.1
 
 pub returns-in-Nothing-clause-counted : goal.returns-in-Nothing-clause-counted
-returns-in-Nothing-clause-counted g c = fills_unread _ _ _ _ _ c.self.view_is c.in-Nothing.ensures.gives.0 c.in-Nothing.ensures.gives.1
+returns-in-Nothing-clause-counted g c =
+    fills_unread _ _ _ _ _ c.self.view_is c.in-Nothing.ensures.gives.0 c.in-Nothing.ensures.gives.1
 
 pub returns-in-Over-clause-counted : goal.returns-in-Over-clause-counted
-returns-in-Over-clause-counted g c = fills_unread _ _ _ _ _ c.self.view_is c.in-Over.ensures.gives.0 c.in-Over.ensures.gives.1
+returns-in-Over-clause-counted g c =
+    fills_unread _ _ _ _ _ c.self.view_is c.in-Over.ensures.gives.0 c.in-Over.ensures.gives.1

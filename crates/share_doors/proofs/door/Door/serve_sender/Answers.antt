@@ -3,7 +3,7 @@ use Rattle.share_model.specs.funding.Graph.{NameBytes}
 use Rattle.share_book.specs.Audited.{Audited}
 use Rattle.share_doors.specs.Door.{DoorView, counted}
 use Rattle.share_doors.specs.Takes.{TakesBytes}
-use Rattle.share_doors.proofs.FillsLemmas.{fills_nothing, fills_one}
+use Rattle.share_doors.proofs.FillLemmas.{fills_nothing, fills_one}
 use Rattle.share_doors.proofs.door.Door.serve_sender.Goals as goal
 
 of_tenant : (name other : NameBytes) (n : ℕ) (a b : Audited) → name ≡ other → TakesBytes name n a b

@@ -14,7 +14,8 @@ pub read-requires : goal.read-requires
 read-requires c = (holds_part _ _ _ c.pieces.invariant c.in-More.ensures).part
 
 pub returns-in-Item : goal.returns-in-Item
-returns-in-Item c = cuts_first _ c.pieces.self.records _ c.payload.result.now c.payload.ensures c.pieces.invariant c.in-Item.ensures
+returns-in-Item c = cuts_first _ c.pieces.self.records _ c.payload.result.now c.payload.ensures c.pieces.invariant
+    c.in-Item.ensures
 
 pub returns-in-Bad : goal.returns-in-Bad
 returns-in-Bad c = ends_bad _ _ _ c.pieces.invariant c.in-Bad.ensures

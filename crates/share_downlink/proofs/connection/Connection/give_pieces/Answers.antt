@@ -3,7 +3,12 @@ use Rattle.share_downlink.proofs.GivenLemmas.{passes_come, passes_cut, passes_no
 use Rattle.share_downlink.proofs.connection.Connection.give_pieces.Goals as goal
 
 pub pieces-init : goal.pieces-init
-pieces-init g c = record { given = passes_nothing g.D.Deliver.delivers _ _ _; over = refl; ready = λ some. absurd (omega arith) }
+pieces-init g c = record {
+  given = passes_nothing g.D.Deliver.delivers _ _ _;
+  over = refl;
+  ready =
+      λ some. absurd (omega arith);
+}
 
 pub returns-in-Some-clause-given : goal.returns-in-Some-clause-given
 returns-in-Some-clause-given g c =

@@ -1,4 +1,4 @@
-use Rattle.share_downlink.proofs.DatagramsLemmas.{takes_one, takes_elsewhere}
+use Rattle.share_downlink.proofs.DatagramLemmas.{takes_one, takes_elsewhere}
 use Rattle.share_downlink.proofs.datagrams.Datagrams.give.Goals as goal
 
 pub returns-then-is_none_or : goal.returns-then-is_none_or

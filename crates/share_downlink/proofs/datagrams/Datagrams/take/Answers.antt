@@ -1,5 +1,5 @@
 use Rattle.share_downlink.specs.Datagrams.{no_datagram}
-use Rattle.share_downlink.proofs.DatagramsLemmas.{takes_more, takes_same}
+use Rattle.share_downlink.proofs.DatagramLemmas.{takes_more, takes_same}
 use Rattle.share_downlink.proofs.datagrams.Datagrams.take.Goals.{in-Ok-Packet, in-Ok-Again}
 use Rattle.share_downlink.proofs.datagrams.Datagrams.take.Goals as goal
 

@@ -1,6 +1,6 @@
 use Rattle.std.proofs.Common.{arith, length-drop}
 use Rattle.std.proofs.lemmas.List.{take_all}
-use Rattle.share_downlink.proofs.DatagramsLemmas.{gives_datagram}
+use Rattle.share_downlink.proofs.DatagramLemmas.{gives_datagram}
 use Rattle.share_downlink.proofs.datagrams.Tally.give.Goals as goal
 
 pub returns-in-Some : goal.returns-in-Some

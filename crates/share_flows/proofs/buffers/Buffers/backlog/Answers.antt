@@ -1,6 +1,6 @@
 use Rattle.std.proofs.Common.{◌∙◌, Some, ap, option_map, sym}
 use Rattle.share_model.specs.link.Buffers.{backlog_in}
-use Rattle.share_flows.proofs.Standing.{standing_of}
+use Rattle.share_flows.proofs.RingLemmas.{standing_of}
 use Rattle.share_flows.proofs.buffers.Buffers.backlog.Goals as goal
 
 pub returns : goal.returns

@@ -1,8 +1,8 @@
 use Rattle.std.proofs.Common.{◌∙◌, ap, sym, position}
 use Rattle.share_model.specs.link.Buffers.{is_buffer_of, count_by, close_in}
-use Rattle.share_flows.proofs.PlaceLaws.{taken}
-use Rattle.share_flows.proofs.Standing.{standing_of}
-use Rattle.share_flows.proofs.Apart.{apart-remove}
+use Rattle.share_flows.proofs.FirstItemLemmas.{taken}
+use Rattle.share_flows.proofs.RingLemmas.{standing_of}
+use Rattle.share_flows.proofs.DistinctFlowLemmas.{apart-remove}
 use Rattle.share_flows.proofs.buffers.Buffers.close.Goals as goal
 
 pub returns-clause-held : goal.returns-clause-held

@@ -1,6 +1,6 @@
 use Rattle.std.proofs.Common.{◌≡◌, ◌∙◌, Some, refl, ap, sym, position}
 use Rattle.share_model.specs.link.Buffers.{is_buffer_of}
-use Rattle.share_flows.proofs.PlaceLaws.{unfound, is_found}
+use Rattle.share_flows.proofs.FirstItemLemmas.{unfound, is_found}
 use Rattle.share_flows.proofs.buffers.Buffers.find.Goals as goal
 
 pub returns-in-None : goal.returns-in-None

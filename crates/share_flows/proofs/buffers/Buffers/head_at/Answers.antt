@@ -1,4 +1,4 @@
-use Rattle.share_flows.proofs.Standing.{head_read}
+use Rattle.share_flows.proofs.RingLemmas.{head_read}
 use Rattle.share_flows.proofs.buffers.Buffers.head_at.Goals as goal
 
 pub returns : goal.returns

@@ -1,6 +1,6 @@
 use Rattle.std.proofs.Common.{◌∙◌, ap, sym}
 use Rattle.share_model.specs.link.Buffers.{holds_packet}
-use Rattle.share_flows.proofs.Standing.{standing}
+use Rattle.share_flows.proofs.RingLemmas.{standing}
 use Rattle.share_flows.proofs.buffers.Buffers.is_busy_at.Goals as goal
 
 pub returns : goal.returns

@@ -1,7 +1,7 @@
 use Rattle.std.proofs.Common.{◌≤◌, ◌∙◌, Option, IfSome, ap, subst, sym}
 use Rattle.share_flows.specs.Stamps.{BufferView}
 use Rattle.share_model.specs.link.Buffers.{count_by}
-use Rattle.share_flows.proofs.Standing.{standing_of}
+use Rattle.share_flows.proofs.RingLemmas.{standing_of}
 use Rattle.share_flows.proofs.buffers.Buffers.len.Goals as goal
 
 pub returns-in-Some-clause-count : goal.returns-in-Some-clause-count

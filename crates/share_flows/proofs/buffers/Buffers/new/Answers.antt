@@ -1,4 +1,4 @@
-use Rattle.share_flows.proofs.Apart.{apart-none}
+use Rattle.share_flows.proofs.DistinctFlowLemmas.{apart-none}
 use Rattle.share_flows.proofs.buffers.Buffers.new.Goals as goal
 
 pub invariant_of-result : goal.invariant_of-result

@@ -1,6 +1,6 @@
 use Rattle.std.proofs.Common.{◌≡◌, Option, IfSome, subst, sym}
 use Rattle.share_flows.specs.Stamps.{BufferView}
-use Rattle.share_flows.proofs.Standing.{standing_of}
+use Rattle.share_flows.proofs.RingLemmas.{standing_of}
 use Rattle.share_flows.proofs.buffers.Buffers.next_number.Goals as goal
 
 pub returns : goal.returns

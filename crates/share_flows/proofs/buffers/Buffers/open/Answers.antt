@@ -1,6 +1,6 @@
 use Rattle.std.proofs.Common.{◌∙◌, ap}
 use Rattle.share_model.specs.link.Buffers.{buffer_of}
-use Rattle.share_flows.proofs.Apart.{apart-open_in}
+use Rattle.share_flows.proofs.DistinctFlowLemmas.{apart-open_in}
 use Rattle.share_flows.proofs.buffers.Buffers.open.Goals as goal
 
 pub invariant_of-self-2 : goal.invariant_of-self-2

@@ -1,7 +1,7 @@
-use Rattle.share_flows.proofs.Standing.{some_packet, head_popped, after_pop}
+use Rattle.share_flows.proofs.RingLemmas.{some_packet, head_popped, after_pop}
 use Rattle.std.proofs.Common.{◌∙◌, ap}
 use Rattle.share_flows.specs.Stamps.{BufferView}
-use Rattle.share_flows.proofs.Apart.{apart-set}
+use Rattle.share_flows.proofs.DistinctFlowLemmas.{apart-set}
 use Rattle.share_flows.proofs.buffers.Buffers.pop_at.Goals as goal
 
 pub pop-requires : goal.pop-requires

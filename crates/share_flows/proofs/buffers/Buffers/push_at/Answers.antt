@@ -1,7 +1,7 @@
-use Rattle.share_flows.proofs.Standing.{may_push, after_push, after_full}
+use Rattle.share_flows.proofs.RingLemmas.{may_push, after_push, after_full}
 use Rattle.std.proofs.Common.{◌∙◌, ap}
 use Rattle.share_flows.specs.Stamps.{BufferView}
-use Rattle.share_flows.proofs.Apart.{apart-set, flow-pushed}
+use Rattle.share_flows.proofs.DistinctFlowLemmas.{apart-set, flow-pushed}
 use Rattle.share_flows.proofs.buffers.Buffers.push_at.Goals as goal
 
 pub push-requires : goal.push-requires

@@ -1,9 +1,9 @@
 use Rattle.std.proofs.Common.{◌∙◌, ap}
 use Rattle.share_model.specs.link.Buffers.{payloads_in}
 use Rattle.share_flows.specs.Stamps.{BufferView, with_stamp}
-use Rattle.share_flows.proofs.Apart.{apart-set}
-use Rattle.share_flows.proofs.Stamping.{stamped-payloads}
-use Rattle.share_flows.proofs.Standing.{some_packet, after_stamp}
+use Rattle.share_flows.proofs.DistinctFlowLemmas.{apart-set}
+use Rattle.share_flows.proofs.StampLemmas.{stamped-payloads}
+use Rattle.share_flows.proofs.RingLemmas.{some_packet, after_stamp}
 use Rattle.share_flows.proofs.buffers.Buffers.stamp_at.Goals as goal
 
 pub stamp-requires-clause-some : goal.stamp-requires-clause-some

@@ -1,6 +1,6 @@
 use Rattle.std.proofs.Common.{ap, refl}
 use Rattle.share_gateway.specs.ByteQueue.{ByteQueueView}
-use Rattle.share_gateway.proofs.FramesLemmas.{frame_fits, gives_frame, reads_none}
+use Rattle.share_gateway.proofs.FrameLemmas.{frame_fits, gives_frame, reads_none}
 use Rattle.share_gateway.proofs.frames.Frames.next.Goals as goal
 
 pub give-requires : goal.give-requires

@@ -1,6 +1,6 @@
 use Rattle.std.proofs.Common.{◌≡◌, ◌∙◌, ap, sym, subst, List, Some, None}
 use Rattle.std.specs.Prelude.{position, slice_set}
-use Rattle.share_flows.proofs.PlaceLaws.{changed, unchanged}
+use Rattle.share_flows.proofs.FirstItemLemmas.{changed, unchanged}
 use Rattle.share_gateway.specs.PlanChanges.{held_as, is_tenant, with_hold}
 use Rattle.share_gateway.specs.Plan.{PlanView, TenantView, IsInLimits}
 use Rattle.share_gateway.proofs.PlanChangeLemmas.{limits-held}

@@ -16,16 +16,19 @@ ticket_after-requires c =
 
 pub returns-then-is_named-clause-ticket : goal.returns-then-is_named-clause-ticket
 returns-then-is_named-clause-ticket c =
-    let named : is_named c.args.name (seen c.grantee_at-to.result) ≡ true = sym c.is_named.ensures ∙ c.if-is_named.true in
+    let named : is_named c.args.name (seen c.grantee_at-to.result) ≡ true =
+    sym c.is_named.ensures ∙ c.if-is_named.true in
     c.ticket_after.ensures
     ∙ ap (λ gs. ticket_after c.loop-index.before c.args.number (length gs)) c.grants.ensures
-    ∙ sym (among-here c.args.self.now c.loop-index.index (seen c.grantee_at-to.result) c.grantee_at-to.ensures c.args.name
+    ∙ sym (among-here c.args.self.now c.loop-index.index (seen c.grantee_at-to.result) c.grantee_at-to.ensures
+    c.args.name
     named c.loop-index.before c.args.number)
     ∙ sym c.loop-index.invariant.ticket
 
 pub returns-then-is_named-clause-stands : goal.returns-then-is_named-clause-stands
 returns-then-is_named-clause-stands c =
-    let named : is_named c.args.name (seen c.grantee_at-to.result) ≡ true = sym c.is_named.ensures ∙ c.if-is_named.true in
+    let named : is_named c.args.name (seen c.grantee_at-to.result) ≡ true =
+    sym c.is_named.ensures ∙ c.if-is_named.true in
     let is =
     c.ticket_after.ensures
     ∙ ap (λ gs. ticket_after c.loop-index.before c.args.number (length gs)) c.grants.ensures

@@ -1,6 +1,6 @@
 use Rattle.std.proofs.Common.{◌≡◌, ◌∙◌, ap, sym, Some, None}
 use Rattle.std.specs.Prelude.{position, find, is_some}
-use Rattle.share_flows.proofs.PlaceLaws.{changed, unchanged, unfound, is_found}
+use Rattle.share_flows.proofs.FirstItemLemmas.{changed, unchanged, unfound, is_found}
 use Rattle.share_gateway.specs.Plan.{has_name}
 use Rattle.share_gateway.specs.PlanChanges.{currency_amended}
 use Rattle.share_gateway.proofs.plan.changes.amend_currency.Goals as goal

@@ -1,6 +1,6 @@
 use Rattle.std.proofs.Common.{◌≡◌, ◌∙◌, ap, sym, Some, None}
 use Rattle.std.specs.Prelude.{position}
-use Rattle.share_flows.proofs.PlaceLaws.{changed, unchanged}
+use Rattle.share_flows.proofs.FirstItemLemmas.{changed, unchanged}
 use Rattle.share_gateway.specs.PlanChanges.{is_tenant, tenant_amended}
 use Rattle.share_gateway.proofs.plan.changes.amend_tenant.Goals as goal
 

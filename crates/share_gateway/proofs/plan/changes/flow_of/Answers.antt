@@ -1,5 +1,5 @@
 use Rattle.std.proofs.Common.{◌∙◌, ap, sym}
-use Rattle.share_flows.proofs.PlaceLaws.{found, unfound}
+use Rattle.share_flows.proofs.FirstItemLemmas.{found, unfound}
 use Rattle.share_gateway.specs.PlanChanges.{flow_by, is_tenant}
 use Rattle.share_gateway.specs.Plan.{TenantView}
 use Rattle.share_gateway.proofs.plan.changes.flow_of.Goals as goal

@@ -1,6 +1,6 @@
 use Rattle.std.proofs.Common.{◌+◌, inl, length, ap, refl}
 use Rattle.share_gateway.specs.ByteQueue.{ByteQueueView}
-use Rattle.share_gateway.proofs.RecordsLemmas.{gives_item}
+use Rattle.share_gateway.proofs.RecordLemmas.{gives_item}
 use Rattle.share_gateway.proofs.records.Records.next.Goals as goal
 
 pub returns-in-Bad : goal.returns-in-Bad

@@ -1,5 +1,5 @@
 use Rattle.std.proofs.Common.{arith, refl}
-use Rattle.share_ingress.proofs.Moves.{pushes, own_last}
+use Rattle.share_ingress.proofs.QueueOrderLemmas.{pushes, own_last}
 use Rattle.share_ingress.proofs.ends.IngressEnd.offer.Goals as goal
 
 pub push-requires-clause-rule : goal.push-requires-clause-rule

@@ -1,7 +1,7 @@
 use Rattle.std.proofs.Common.{◌∙◌}
 use Rattle.crossbeam_queue.specs.Passes.{view}
-use Rattle.share_ingress.proofs.Joins.{closes}
-use Rattle.share_ingress.proofs.Gathering.{whole_of, whole_by}
+use Rattle.share_ingress.proofs.JoinLemmas.{closes}
+use Rattle.share_ingress.proofs.IntakeLemmas.{whole_of, whole_by}
 use Rattle.share_ingress.proofs.ends.Intake.close.Goals as goal
 
 pub absorb-requires-clause-joins : goal.absorb-requires-clause-joins

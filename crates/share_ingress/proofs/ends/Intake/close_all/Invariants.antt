@@ -1,7 +1,7 @@
 use Rattle.std.proofs.Common.{◌≡◌, vec_len}
 use Rattle.share_model.specs.lists.Each.{Each}
 use Rattle.share_ingress.specs.Gathers.{IsTaken}
-use Rattle.share_ingress.proofs.Gathering.{ClosedEnds}
+use Rattle.share_ingress.proofs.IntakeLemmas.{ClosedEnds}
 use Rattle.share_ingress.proofs.ends.Intake.close_all.Given as goal
 
 abbrev pub invariant-loop-end : goal.invariant-loop-end

@@ -1,7 +1,7 @@
 use Rattle.std.proofs.Common.{refl}
 use Rattle.crossbeam_queue.specs.Passes.{view}
 use Rattle.share_model.specs.ingress.Queue.{a_host}
-use Rattle.share_ingress.proofs.Joins.{lays, compares, parts, front_of}
+use Rattle.share_ingress.proofs.JoinLemmas.{lays, compares, parts, front_of}
 use Rattle.share_ingress.proofs.ends.Intake.compare.Goals as goal
 
 pub beside-token-requires-clause-joins : goal.beside-token-requires-clause-joins

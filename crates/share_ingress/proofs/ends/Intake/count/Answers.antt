@@ -1,5 +1,5 @@
 use Rattle.std.proofs.Common.{arith, refl}
-use Rattle.share_ingress.proofs.Offers.{of_stranger}
+use Rattle.share_ingress.proofs.OfferLemmas.{of_stranger}
 use Rattle.share_ingress.proofs.ends.Intake.count.Goals as goal
 
 pub returns-then-worker-self : goal.returns-then-worker-self

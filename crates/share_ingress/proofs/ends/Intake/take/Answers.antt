@@ -1,6 +1,6 @@
 use Rattle.std.proofs.Common.{◌∙◌}
-use Rattle.share_ingress.proofs.Moves.{pops, seen}
-use Rattle.share_ingress.proofs.Gathering.{view_after, known_after, counts_after}
+use Rattle.share_ingress.proofs.QueueOrderLemmas.{pops, seen}
+use Rattle.share_ingress.proofs.IntakeLemmas.{view_after, known_after, counts_after}
 use Rattle.share_ingress.proofs.ends.Intake.take.Goals as goal
 
 pub pop-requires-clause-rule : goal.pop-requires-clause-rule

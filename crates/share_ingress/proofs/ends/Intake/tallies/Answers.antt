@@ -1,7 +1,7 @@
 use Rattle.std.proofs.Common.{◌≡◌, ◌∙◌, length, sum, ap}
 use Rattle.std.proofs.lemmas.Result.{IfOk-weaker}
 use Rattle.share_ingress.specs.Gathers.{tallies_of}
-use Rattle.share_ingress.proofs.Gathering.{tallies_are, tallies_sum}
+use Rattle.share_ingress.proofs.IntakeLemmas.{tallies_are, tallies_sum}
 use Rattle.share_ingress.proofs.ends.Intake.tallies.Goals as goal
 
 pub returns-clause-items : goal.returns-clause-items

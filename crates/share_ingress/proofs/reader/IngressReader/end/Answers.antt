@@ -1,5 +1,5 @@
 use Rattle.std.proofs.Common.{Some}
-use Rattle.share_ingress.proofs.ReaderSteps.{stands_ended}
+use Rattle.share_ingress.proofs.ReaderLemmas.{stands_ended}
 use Rattle.share_ingress.proofs.reader.IngressReader.end.Goals as goal
 
 pub invariant_of-self : goal.invariant_of-self

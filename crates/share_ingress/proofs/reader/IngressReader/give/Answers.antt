@@ -1,5 +1,5 @@
 use Rattle.std.proofs.Common.{◌+◌, length, refl}
-use Rattle.share_ingress.proofs.ReaderSteps.{answers_ended, no_memory, given_whole, takes_for_payload}
+use Rattle.share_ingress.proofs.ReaderLemmas.{answers_ended, no_memory, given_whole, takes_for_payload}
 use Rattle.share_ingress.proofs.reader.IngressReader.give.Goals as goal
 
 pub returns-in-Err : goal.returns-in-Err

@@ -1,5 +1,5 @@
 use Rattle.share_ingress.specs.Reader.{EndStands}
-use Rattle.share_ingress.proofs.ReaderSteps.{some_known}
+use Rattle.share_ingress.proofs.ReaderLemmas.{some_known}
 use Rattle.share_ingress.proofs.reader.IngressReader.next.Goals as goal
 
 pub returns-in-Some-clause-reason : goal.returns-in-Some-clause-reason

@@ -1,6 +1,6 @@
 use Rattle.std.proofs.Common.{◌∙◌, arith, inr}
-use Rattle.share_ingress.proofs.ReaderSteps.{bound_met, no_memory, bytes_read, interrupted, failed, ended_input}
-use Rattle.share_ingress.proofs.ReaderSteps.{read_whole}
+use Rattle.share_ingress.proofs.ReaderLemmas.{bound_met, no_memory, bytes_read, interrupted, failed, ended_input}
+use Rattle.share_ingress.proofs.ReaderLemmas.{read_whole}
 use Rattle.share_ingress.proofs.reader.IngressReader.read.Goals as goal
 
 pub end_of_input-requires : goal.end_of_input-requires

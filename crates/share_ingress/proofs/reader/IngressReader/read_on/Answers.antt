@@ -1,4 +1,4 @@
-use Rattle.share_ingress.proofs.ReaderSteps.{none_read, on_later, answers_later, answers_ended, bad_record}
+use Rattle.share_ingress.proofs.ReaderLemmas.{none_read, on_later, answers_later, answers_ended, bad_record}
 use Rattle.share_ingress.proofs.reader.IngressReader.read_on.Goals as goal
 
 pub record-init : goal.record-init

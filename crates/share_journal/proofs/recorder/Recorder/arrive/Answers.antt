@@ -2,10 +2,10 @@ use Rattle.std.proofs.Common.{◌∙◌, ap, sym}
 use Rattle.share_base.specs.Body.{BodyView}
 use Rattle.share_base.specs.declared.command.Event.{Event}
 use Rattle.share_base.specs.declared.command.Event.TheVariants.{Arrived}
-use Rattle.share_model.proofs.lemmas.run.Laws.{arrive-asked}
+use Rattle.share_model.proofs.lemmas.run.CallLemmas.{arrive-asked}
 use Rattle.share_journal.specs.declared.entry.Source.TheVariants.{Worker}
-use Rattle.share_journal.proofs.Runs.{run-sound, replied_entry, same_test, asked-room, asked-kept}
-use Rattle.share_journal.proofs.Answered.{arrival-answers}
+use Rattle.share_journal.proofs.RunLemmas.{run-sound, replied_entry, same_test, asked-room, asked-kept}
+use Rattle.share_journal.proofs.EventAnswerLemmas.{arrival-answers}
 use Rattle.share_journal.proofs.recorder.Recorder.arrive.Goals as goal
 
 pub note_if-requires : goal.note_if-requires

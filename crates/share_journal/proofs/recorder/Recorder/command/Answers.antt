@@ -1,10 +1,10 @@
 use Rattle.std.proofs.Common.{◌∙◌, ap}
 use Rattle.share_base.specs.declared.command.Event.{Event}
 use Rattle.share_base.specs.declared.command.Event.TheVariants.{Commanded}
-use Rattle.share_model.proofs.lemmas.run.Laws.{command-asked}
+use Rattle.share_model.proofs.lemmas.run.CallLemmas.{command-asked}
 use Rattle.share_journal.specs.declared.entry.Source.TheVariants.{Clerk}
-use Rattle.share_journal.proofs.Runs.{run-sound, replied_entry, same_test, asked-room, asked-kept}
-use Rattle.share_journal.proofs.Answered.{command-answers}
+use Rattle.share_journal.proofs.RunLemmas.{run-sound, replied_entry, same_test, asked-room, asked-kept}
+use Rattle.share_journal.proofs.EventAnswerLemmas.{command-answers}
 use Rattle.share_journal.proofs.recorder.Recorder.command.Goals as goal
 
 pub note_if-requires : goal.note_if-requires

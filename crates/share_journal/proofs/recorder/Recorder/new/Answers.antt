@@ -1,5 +1,5 @@
 use Rattle.std.proofs.Common.{sym, ◌∙◌}
-use Rattle.share_journal.proofs.Runs.{run-new, same_version}
+use Rattle.share_journal.proofs.RunLemmas.{run-new, same_version}
 use Rattle.share_journal.proofs.recorder.Recorder.new.Goals as goal
 
 pub invariant_of-result : goal.invariant_of-result

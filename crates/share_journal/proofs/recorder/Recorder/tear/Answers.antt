@@ -1,6 +1,6 @@
-use Rattle.share_model.proofs.lemmas.link.TurnLaws.{tear-went}
-use Rattle.share_model.proofs.lemmas.run.Laws.{tear-ran}
-use Rattle.share_journal.proofs.Runs.{run-sound, turn-room, turn-kept}
+use Rattle.share_model.proofs.lemmas.link.TurnLemmas.{tear-went}
+use Rattle.share_model.proofs.lemmas.run.CallLemmas.{tear-ran}
+use Rattle.share_journal.proofs.RunLemmas.{run-sound, turn-room, turn-kept}
 use Rattle.share_journal.proofs.recorder.Recorder.tear.Goals as goal
 
 pub note_turn-requires : goal.note_turn-requires

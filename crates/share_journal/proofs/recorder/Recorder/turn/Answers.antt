@@ -1,6 +1,6 @@
-use Rattle.share_model.proofs.lemmas.link.TurnLaws.{turn-went}
-use Rattle.share_model.proofs.lemmas.run.Laws.{turn-ran}
-use Rattle.share_journal.proofs.Runs.{run-sound, turn-room, turn-kept}
+use Rattle.share_model.proofs.lemmas.link.TurnLemmas.{turn-went}
+use Rattle.share_model.proofs.lemmas.run.CallLemmas.{turn-ran}
+use Rattle.share_journal.proofs.RunLemmas.{run-sound, turn-room, turn-kept}
 use Rattle.share_journal.proofs.recorder.Recorder.turn.Goals as goal
 
 pub note_turn-requires : goal.note_turn-requires

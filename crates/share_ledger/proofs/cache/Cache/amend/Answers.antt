@@ -1,4 +1,4 @@
-use Rattle.share_ledger.proofs.StaleSteps.{lefts-was}
+use Rattle.share_ledger.proofs.StalePlaceLemmas.{lefts-was}
 use Rattle.share_ledger.proofs.cache.Cache.amend.Goals as goal
 
 pub follow-requires-clause-was : goal.follow-requires-clause-was

@@ -1,4 +1,4 @@
-use Rattle.share_ledger.proofs.Computed.{kept-ready}
+use Rattle.share_ledger.proofs.EquationLemmas.{kept-ready}
 use Rattle.share_ledger.proofs.cache.Cache.recompute_changed.Goals as goal
 
 pub returns : goal.returns

@@ -5,9 +5,9 @@ use Rattle.std.proofs.lemmas.Bool.{eqb-true}
 use Rattle.share_ledger.specs.Nets.{activity_of, IsReady}
 use Rattle.share_ledger.specs.Arrays.{flags_of}
 use Rattle.share_ledger.specs.FundingTickets.{backs_of, funds_of}
-use Rattle.share_ledger.proofs.NetQuiet.{relit}
-use Rattle.share_ledger.proofs.Computed.{kept-ready}
-use Rattle.share_ledger.proofs.StaleSteps.{turned-was, turned-quiet}
+use Rattle.share_ledger.proofs.BaseFundingLemmas.{relit}
+use Rattle.share_ledger.proofs.EquationLemmas.{kept-ready}
+use Rattle.share_ledger.proofs.StalePlaceLemmas.{turned-was, turned-quiet}
 use Rattle.share_ledger.proofs.cache.Cache.set_active.Goals as goal
 
 pub returns-then-is_funded_by_base : goal.returns-then-is_funded_by_base
@@ -17,17 +17,19 @@ returns-then-is_funded_by_base c =
     let long : length old.tickets_of_all.value ≡ 64 = let was = c.share.ensures.long.0 in cc in
     let wrote : c.share.new.tickets_of_all
     ≡ set old.tickets_of_all.value c.args.place _ = let own = c.share.ensures.set in cc in
-    kept-ready g c.turn.new.self c.share.new.tickets_of_all c.is_kept.ensures c.share.ensures.long.1
-    (subst (λ (tickets_of_all : List ℕ). IsReady c.turn.new.self tickets_of_all (backs_of g) (funds_of g)
+    kept-ready g c.set_active.new.self c.share.new.tickets_of_all c.is_kept.ensures c.share.ensures.long.1
+    (subst (λ (tickets_of_all : List ℕ). IsReady c.set_active.new.self tickets_of_all (backs_of g) (funds_of g)
     (activity_of g)) (sym wrote)
-    (turned-quiet old.net c.turn.new.self old.tickets_of_all.value _ _ _ c.args.place c.args.active c.requires.ready
-    c.turn.ensures.begun c.turn.ensures.left c.requires.turned _
-    (c.turn.ensures.still (sym c.is_funded_by_base.ensures ∙ c.if-is_funded_by_base.true)) c.requires.place long refl))
+    (turned-quiet old.net c.set_active.new.self old.tickets_of_all.value _ _ _ c.args.place c.args.active
+    c.requires.ready
+    c.set_active.ensures.begun c.set_active.ensures.left c.requires.turned _
+    (c.set_active.ensures.still (sym c.is_funded_by_base.ensures ∙ c.if-is_funded_by_base.true)) c.requires.place long
+    refl))
 
 pub recompute_changed-requires-clause-was : goal.recompute_changed-requires-clause-was
 recompute_changed-requires-clause-was c =
-    turned-was c.args.self.now.net c.turn-2.new.self _ _ _ _ c.args.place c.args.active c.requires.ready
-    c.turn-2.ensures.begun c.turn-2.ensures.left c.requires.turned
+    turned-was c.args.self.now.net c.set_active-2.new.self _ _ _ _ c.args.place c.args.active c.requires.ready
+    c.set_active-2.ensures.begun c.set_active-2.ensures.left c.requires.turned
 
 -- if no activity changes, all is as it was
 same-flags : (lit on : ℕ → Bool) (place : ℕ) (b : Bool) → beq (on place) b ≡ true

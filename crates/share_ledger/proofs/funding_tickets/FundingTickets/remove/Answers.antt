@@ -1,11 +1,11 @@
 use Rattle.std.proofs.Common.{◌≡◌, ◌+◌, ◌<◌, ◌-◌, List, sum_by, take, length, sym, ap, ◌∙◌, arith}
 use Rattle.std.proofs.Common.{get_or, set}
 use Rattle.std.proofs.lemmas.List.{get_or-take, length-take}
-use Rattle.share_model.proofs.lemmas.funding.SettleLaws.{none_any}
+use Rattle.share_model.proofs.lemmas.funding.SettledGraphLemmas.{none_any}
 use Rattle.share_ledger.specs.declared.funding_tickets.FundingTicket.{FundingTicket}
 use Rattle.share_ledger.specs.FundingTickets.{is_like}
-use Rattle.share_ledger.proofs.Positions.{position-first, position-none}
-use Rattle.share_ledger.proofs.FundingSums.{first-passes, first-below, like-same, sum-taken_out}
+use Rattle.share_ledger.proofs.FirstItemLemmas.{position-first, position-none}
+use Rattle.share_ledger.proofs.FundingSumLemmas.{first-passes, first-below, like-same, sum-taken_out}
 use Rattle.share_ledger.proofs.funding_tickets.FundingTickets.remove.Goals as goal
 use Rattle.std.proofs.lemmas.Bool.Decides.{nat_tests}
 

@@ -2,7 +2,7 @@ use Rattle.std.proofs.Common.{sym, subst}
 use Rattle.share_model.specs.funding.Changes.{add_flow}
 use Rattle.share_ledger.specs.Cache.{IsCurrent}
 use Rattle.share_ledger.specs.declared.net.Net.{Net}
-use Rattle.share_ledger.proofs.RoutesLeft.{kept-opened}
+use Rattle.share_ledger.proofs.UnchangedRouteLemmas.{kept-opened}
 use Rattle.share_ledger.proofs.ledger.Ledger.add_flow.Goals as goal
 
 pub invariant_of-self-2 : goal.invariant_of-self-2

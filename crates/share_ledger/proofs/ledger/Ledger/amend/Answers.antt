@@ -1,7 +1,7 @@
 use Rattle.std.proofs.Common.{sym, ◌∙◌}
-use Rattle.share_ledger.proofs.NetFunds.{gets-amount}
-use Rattle.share_ledger.proofs.RoutesLeft.{kept-amended}
-use Rattle.share_ledger.proofs.StaleSteps.{ready-was}
+use Rattle.share_ledger.proofs.HolderLemmas.{gets-amount}
+use Rattle.share_ledger.proofs.UnchangedRouteLemmas.{kept-amended}
+use Rattle.share_ledger.proofs.StalePlaceLemmas.{ready-was}
 use Rattle.share_ledger.proofs.ledger.Ledger.amend.Goals as goal
 
 pub invariant_of-self : goal.invariant_of-self

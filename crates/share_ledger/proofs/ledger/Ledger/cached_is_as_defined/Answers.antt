@@ -1,4 +1,4 @@
-use Rattle.share_model.proofs.lemmas.funding.LawsHold.{cached-as_defined}
+use Rattle.share_model.proofs.lemmas.funding.InvariantLemmas.{cached-as_defined}
 use Rattle.share_ledger.proofs.ledger.Ledger.cached_is_as_defined.Goals as goal
 
 pub returns : goal.returns

@@ -1,4 +1,4 @@
-use Rattle.share_model.proofs.lemmas.funding.Long.{cycle-is-backing}
+use Rattle.share_model.proofs.lemmas.funding.DeepFundingLemmas.{cycle-is-backing}
 use Rattle.share_ledger.proofs.ledger.Ledger.cycle_is_backing.Goals as goal
 
 pub returns : goal.returns

@@ -1,7 +1,7 @@
 use Rattle.std.proofs.Common.{refl}
 use Rattle.share_model.specs.declared.funding.Holder.TheVariants.{Currency}
-use Rattle.share_ledger.proofs.NetFunds.{comes-to-fund, free-currency, free-held}
-use Rattle.share_ledger.proofs.StaleSteps.{ready-was}
+use Rattle.share_ledger.proofs.HolderLemmas.{comes-to-fund, free-currency, free-held}
+use Rattle.share_ledger.proofs.StalePlaceLemmas.{ready-was}
 use Rattle.share_ledger.proofs.ledger.Ledger.fund_currency.Goals as goal
 
 pub route_of-backing-requires : goal.route_of-backing-requires

@@ -1,8 +1,8 @@
 use Rattle.std.proofs.Common.{refl}
 use Rattle.share_model.specs.declared.funding.Holder.TheVariants.{Flow}
 use Rattle.share_model.specs.funding.Changes.{flow_number, flow_named}
-use Rattle.share_ledger.proofs.NetFunds.{comes-to-fund, free-flow, free-held}
-use Rattle.share_ledger.proofs.StaleSteps.{ready-was}
+use Rattle.share_ledger.proofs.HolderLemmas.{comes-to-fund, free-flow, free-held}
+use Rattle.share_ledger.proofs.StalePlaceLemmas.{ready-was}
 use Rattle.share_ledger.proofs.ledger.Ledger.fund_flow.Goals as goal
 
 pub route_of-backing-requires : goal.route_of-backing-requires

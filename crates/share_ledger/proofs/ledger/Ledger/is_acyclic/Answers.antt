@@ -1,4 +1,4 @@
-use Rattle.share_model.proofs.lemmas.funding.Acyclic.{acyclic}
+use Rattle.share_model.proofs.lemmas.funding.CycleLemmas.{acyclic}
 use Rattle.share_ledger.proofs.ledger.Ledger.is_acyclic.Goals as goal
 
 pub returns : goal.returns

@@ -1,10 +1,10 @@
 use Rattle.std.proofs.Common.{◌≡◌, None, sym, subst, refl}
 use Rattle.share_base.specs.Refusal.{IsRefused}
 use Rattle.share_model.specs.funding.Changes.{make_ticket_refusal, make_ticket}
-use Rattle.share_model.proofs.lemmas.funding.Held.{leaves-tickets}
+use Rattle.share_model.proofs.lemmas.funding.HolderLemmas.{leaves-tickets}
 use Rattle.share_ledger.specs.Cache.{IsCurrent}
-use Rattle.share_ledger.proofs.FlowShares.{answered}
-use Rattle.share_ledger.proofs.RoutesLeft.{kept-left, routes-make_ticket}
+use Rattle.share_ledger.proofs.FlowTicketLemmas.{answered}
+use Rattle.share_ledger.proofs.UnchangedRouteLemmas.{kept-left, routes-make_ticket}
 use Rattle.share_ledger.proofs.ledger.Ledger.make_ticket.Goals as goal
 
 pub invariant_of-self : goal.invariant_of-self

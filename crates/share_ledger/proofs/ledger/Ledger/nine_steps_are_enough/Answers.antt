@@ -1,4 +1,4 @@
-use Rattle.share_model.proofs.lemmas.funding.LawsHold.{settled}
+use Rattle.share_model.proofs.lemmas.funding.InvariantLemmas.{settled}
 use Rattle.share_ledger.proofs.ledger.Ledger.nine_steps_are_enough.Goals as goal
 
 pub returns : goal.returns

@@ -1,12 +1,12 @@
 use Rattle.std.proofs.Common.{◌≡◌, IfSome, refl, sym, subst}
-use Rattle.share_model.proofs.lemmas.funding.Held.{leaves-tickets}
+use Rattle.share_model.proofs.lemmas.funding.HolderLemmas.{leaves-tickets}
 use Rattle.share_model.specs.funding.Changes.{remove_currency}
 use Rattle.share_model.specs.funding.Kept.{names_of}
 use Rattle.share_ledger.specs.Bounds.{AreBefore}
 use Rattle.share_ledger.specs.Places.{place}
 use Rattle.share_ledger.specs.Cache.{IsCurrent}
-use Rattle.share_ledger.proofs.RoutesBefore.{routes-remove_currency}
-use Rattle.share_ledger.proofs.RoutesLeft.{kept-left}
+use Rattle.share_ledger.proofs.RemovedCurrencyLemmas.{routes-remove_currency}
+use Rattle.share_ledger.proofs.UnchangedRouteLemmas.{kept-left}
 use Rattle.share_ledger.proofs.ledger.Ledger.remove_currency.Goals as goal
 
 pub invariant_of-self-then-is_before : goal.invariant_of-self-then-is_before

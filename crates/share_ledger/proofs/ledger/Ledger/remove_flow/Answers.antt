@@ -1,6 +1,6 @@
 use Rattle.std.proofs.Common.{sym, subst, ◌∙◌}
 use Rattle.share_ledger.specs.Cache.{IsCurrent}
-use Rattle.share_ledger.proofs.FlowsClosed.{kept-closed}
+use Rattle.share_ledger.proofs.ClosedFlowLemmas.{kept-closed}
 use Rattle.share_ledger.proofs.ledger.Ledger.remove_flow.Goals as goal
 
 pub invariant_of-self : goal.invariant_of-self

@@ -1,9 +1,9 @@
 use Rattle.std.proofs.Common.{◌≡◌, None, Some, sym, subst, refl}
 use Rattle.share_model.specs.funding.Changes.{remove_ticket_refusal, remove_ticket}
-use Rattle.share_model.proofs.lemmas.funding.Held.{leaves-tickets}
+use Rattle.share_model.proofs.lemmas.funding.HolderLemmas.{leaves-tickets}
 use Rattle.share_ledger.specs.Cache.{IsCurrent}
-use Rattle.share_ledger.proofs.FlowShares.{answered}
-use Rattle.share_ledger.proofs.RoutesLeft.{kept-left, routes-remove_ticket}
+use Rattle.share_ledger.proofs.FlowTicketLemmas.{answered}
+use Rattle.share_ledger.proofs.UnchangedRouteLemmas.{kept-left, routes-remove_ticket}
 use Rattle.share_ledger.proofs.ledger.Ledger.remove_ticket.Goals as goal
 
 pub invariant_of-self : goal.invariant_of-self

@@ -3,7 +3,7 @@ use Rattle.share_model.specs.funding.Graph.{Graph}
 use Rattle.share_ledger.specs.Nets.{activity_of, IsReady}
 use Rattle.share_ledger.specs.Arrays.{flags_of}
 use Rattle.share_ledger.specs.FundingTickets.{backs_of, funds_of}
-use Rattle.share_ledger.proofs.RoutesLeft.{turned-below, turned-ready, turned-activity}
+use Rattle.share_ledger.proofs.UnchangedRouteLemmas.{turned-below, turned-ready, turned-activity}
 use Rattle.share_ledger.proofs.ledger.Ledger.set_active.Goals as goal
 
 pub set_active-requires-in-Some-clause-place : goal.set_active-requires-in-Some-clause-place

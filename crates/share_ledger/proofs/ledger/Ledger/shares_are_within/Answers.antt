@@ -1,4 +1,4 @@
-use Rattle.share_model.proofs.lemmas.funding.Shares.{shares-within}
+use Rattle.share_model.proofs.lemmas.funding.ShareLemmas.{shares-within}
 use Rattle.share_ledger.proofs.ledger.Ledger.shares_are_within.Goals as goal
 
 pub returns : goal.returns

@@ -1,7 +1,7 @@
 use Rattle.std.proofs.Common.{◌≡◌, Some, map, nat_eq, position, sym, ◌∙◌, subst}
 use Rattle.share_model.specs.declared.funding.OpenFlow.{OpenFlow}
 use Rattle.share_model.specs.funding.Graph.{NameBytes, Graph, tickets}
-use Rattle.share_ledger.proofs.FlowShares.{tickets-found, tickets-missing}
+use Rattle.share_ledger.proofs.FlowTicketLemmas.{tickets-found, tickets-missing}
 use Rattle.share_ledger.proofs.ledger.Ledger.tickets.Goals as goal
 
 pub returns-in-Some : goal.returns-in-Some

@@ -1,6 +1,6 @@
 use Rattle.std.proofs.Common.{sym, ◌∙◌}
-use Rattle.share_ledger.proofs.NetFunds.{ceases-to-fund, held-ticket}
-use Rattle.share_ledger.proofs.StaleSteps.{ready-was}
+use Rattle.share_ledger.proofs.HolderLemmas.{ceases-to-fund, held-ticket}
+use Rattle.share_ledger.proofs.StalePlaceLemmas.{ready-was}
 use Rattle.share_ledger.proofs.ledger.Ledger.unfund.Goals as goal
 
 pub route_of-backing-requires : goal.route_of-backing-requires

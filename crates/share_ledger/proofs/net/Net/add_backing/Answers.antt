@@ -4,12 +4,13 @@ use Rattle.share_ledger.specs.Arrays.{flags_of, numbers_of}
 use Rattle.share_ledger.specs.declared.funding_tickets.FundingTicket.{FundingTicket}
 use Rattle.share_ledger.specs.Ranks.{AreRanks}
 use Rattle.share_ledger.specs.FundingTickets.{AreTicketed, backs_of, funds_of}
-use Rattle.share_ledger.proofs.NetMore.{counted-given, less-bound, ticketed-more, ticketed-same, ranked-more, sum-bound}
-use Rattle.share_ledger.proofs.FundingCounts.{room-more}
+use Rattle.share_ledger.proofs.FundingChangeLemmas.{counted-given, less-bound, ticketed-more, ticketed-same}
+use Rattle.share_ledger.proofs.FundingChangeLemmas.{ranked-more, sum-bound}
+use Rattle.share_ledger.proofs.FundingCountLemmas.{room-more}
 use Rattle.share_ledger.proofs.net.Net.add_backing.Goals as goal
 
-pub grow-requires-clause-small : goal.grow-requires-clause-small
-grow-requires-clause-small c = λ p lt.
+pub add_one-requires-clause-small : goal.add_one-requires-clause-small
+add_one-requires-clause-small c = λ p lt.
     let g = c.args.tables.now in
     let old = c.args.self.now in
     let b = c.requires.begun in
@@ -71,7 +72,7 @@ returns-clause-begun c =
       listed = c.renew.ensures.listed;
       active_is = was.active_is;
       counted = counted-given _ _ _ _ r true false _ _ gb gf _ _ was.counted (λ p lt.
-          let grew = c.grow.ensures p lt in
+          let grew = c.add_one.ensures p lt in
           let amount = c.amount_if-amount.ensures in
           grind (arith, nat_tests));
       small = was.small;

@@ -3,9 +3,10 @@ use Rattle.std.proofs.lemmas.Bool.Decides.{nat_tests}
 use Rattle.share_ledger.specs.Arrays.{flags_of, numbers_of}
 use Rattle.share_ledger.specs.Routes.{amended}
 use Rattle.share_ledger.specs.FundingTickets.{backs_of, funds_of}
-use Rattle.share_ledger.proofs.NetMore.{gain-held, counted-taken, counted-given, less-bound, sum-bound, ticketed-less}
-use Rattle.share_ledger.proofs.NetMore.{ticketed-back, ticketed-same, ticketed-amended, ranked-amended}
-use Rattle.share_ledger.proofs.FundingCounts.{funding_ticket-there, room-more}
+use Rattle.share_ledger.proofs.FundingChangeLemmas.{gain-held, counted-taken, counted-given, less-bound, sum-bound}
+use Rattle.share_ledger.proofs.FundingChangeLemmas.{ticketed-less}
+use Rattle.share_ledger.proofs.FundingChangeLemmas.{ticketed-back, ticketed-same, ticketed-amended, ranked-amended}
+use Rattle.share_ledger.proofs.FundingCountLemmas.{funding_ticket-there, room-more}
 use Rattle.share_ledger.proofs.net.Net.amend_backing.Goals as goal
 
 pub remove_funding_ticket-requires-clause-has : goal.remove_funding_ticket-requires-clause-has
@@ -27,8 +28,8 @@ add_funding_ticket-requires-clause-room c =
     kept.1 gone.others gone.out gone.places)
     c.requires.within.to_place kept.3
 
-pub shrink-requires-clause-held : goal.shrink-requires-clause-held
-shrink-requires-clause-held c =
+pub subtract_one-requires-clause-held : goal.subtract_one-requires-clause-held
+subtract_one-requires-clause-held c =
     let r = c.args.route.now in
     let b = c.requires.begun in
     let kept = b.1.1.1.1 in
@@ -39,24 +40,24 @@ shrink-requires-clause-held c =
     let same = ap (λ (ws : List ℕ). numbers_of ws r.from) c.deref_mut.ensures.value in
     grind (arith, nat_tests)
 
-pub grow-requires-clause-small : goal.grow-requires-clause-small
-grow-requires-clause-small c = λ p lt.
+pub add_one-requires-clause-small : goal.add_one-requires-clause-small
+add_one-requires-clause-small c = λ p lt.
     let g = c.args.tables.now in
     let old = c.args.self.now in
     let r = c.args.route.now in
     let b = c.requires.begun in
     let kept = b.1.1.1.1 in
-    let bound : numbers_of c.shrink.new.weights p ≤ 2 ^ 31 =
+    let bound : numbers_of c.subtract_one.new.weights p ≤ 2 ^ 31 =
     less-bound b.1.1.0 b.1.1.1.0 (backs_of g) (funds_of g) (amended c.args.amount r) true false
-    (flags_of old.awake.value) (flags_of old.active.value) kept.3 kept.4 (numbers_of c.shrink.new.weights)
+    (flags_of old.awake.value) (flags_of old.active.value) kept.3 kept.4 (numbers_of c.subtract_one.new.weights)
     (counted-taken _ _ _ _ r true false _ _ kept.1 kept.2 _ _ kept.0.counted (λ p lt.
-    let shrank = c.shrink.ensures p lt in
+    let shrank = c.subtract_one.ensures p lt in
     let amount = c.amount_if-before.ensures in
     let same = ap (λ (ws : List ℕ). numbers_of ws p) c.deref_mut.ensures.value in
     grind (arith, nat_tests)))
     p (2 ^ 31) lt
     (sum-bound g (flags_of old.awake.value) (flags_of old.active.value) c.is_kept.ensures p) in
-    let same : numbers_of c.deref_mut-2.result.now p ≡ numbers_of c.shrink.new.weights p =
+    let same : numbers_of c.deref_mut-2.result.now p ≡ numbers_of c.subtract_one.new.weights p =
     ap (λ (ws : List ℕ). numbers_of ws p) c.deref_mut-2.ensures.value in
     omega (arith, bound, same)
 
@@ -86,13 +87,13 @@ returns-clause-begun c =
       active_is = was.active_is;
       counted =
           counted-given b.1.1.0 b.1.1.1.0 (backs_of g) (funds_of g) (amended c.args.amount r) true false _ _ kept.3
-          kept.4 (numbers_of c.shrink.new.weights) _
+          kept.4 (numbers_of c.subtract_one.new.weights) _
           (counted-taken _ _ _ _ r true false _ _ kept.1 kept.2 _ _ was.counted (λ p lt.
-          let shrank = c.shrink.ensures p lt in
+          let shrank = c.subtract_one.ensures p lt in
           let amount = c.amount_if-before.ensures in
           grind (arith, nat_tests)))
           (λ p lt.
-          let grew = c.grow.ensures p lt in
+          let grew = c.add_one.ensures p lt in
           let amount = c.amount_if-after.ensures in
           grind (arith, nat_tests));
       small = was.small;

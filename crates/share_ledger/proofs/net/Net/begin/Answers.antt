@@ -1,7 +1,7 @@
 use Rattle.std.proofs.Common.{◌≤◌, true, false, cond, nat_eq, List, sum_by, sym, subst}
 use Rattle.share_ledger.specs.declared.routes.Route.{Route}
-use Rattle.share_ledger.proofs.RoutesDone.{done-within}
-use Rattle.share_ledger.proofs.FundingCounts.{routes-few_at}
+use Rattle.share_ledger.proofs.RouteBoundLemmas.{done-within}
+use Rattle.share_ledger.proofs.FundingCountLemmas.{routes-few_at}
 use Rattle.share_ledger.proofs.net.Net.begin.Goals as goal
 
 pub fill-requires-clause-within : goal.fill-requires-clause-within

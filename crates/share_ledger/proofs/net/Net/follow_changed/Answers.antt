@@ -1,7 +1,7 @@
 use Rattle.std.proofs.Common.{rules}
 use Rattle.share_ledger.specs.Arrays.{flags_of, numbers_of}
-use Rattle.share_ledger.proofs.Computed.{values-there}
-use Rattle.share_ledger.proofs.StaleSteps.{shared-still}
+use Rattle.share_ledger.proofs.EquationLemmas.{values-there}
+use Rattle.share_ledger.proofs.StalePlaceLemmas.{shared-still}
 use Rattle.share_ledger.proofs.net.Net.follow_changed.Goals as goal
 
 pub returns-clause-ready : goal.returns-clause-ready

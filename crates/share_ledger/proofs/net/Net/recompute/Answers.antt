@@ -1,4 +1,4 @@
-use Rattle.share_ledger.proofs.Computed.{values-there}
+use Rattle.share_ledger.proofs.EquationLemmas.{values-there}
 use Rattle.share_ledger.proofs.net.Net.recompute.Goals as goal
 
 pub revalue-requires-clause-values : goal.revalue-requires-clause-values

@@ -1,4 +1,4 @@
-use Rattle.share_ledger.proofs.StaleSteps.{quiet-computed}
+use Rattle.share_ledger.proofs.StalePlaceLemmas.{quiet-computed}
 use Rattle.share_ledger.proofs.net.Net.recompute_changed.Goals as goal
 
 pub returns-then-is_quiet-clause-ready : goal.returns-then-is_quiet-clause-ready

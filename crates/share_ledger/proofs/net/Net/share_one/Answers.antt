@@ -1,6 +1,6 @@
 use Rattle.std.proofs.Common.{arith}
 use Rattle.std.proofs.lemmas.Bool.Decides.{nat_tests}
-use Rattle.share_ledger.proofs.NetSteps.{array-set}
+use Rattle.share_ledger.proofs.WeightLemmas.{array-set}
 use Rattle.share_ledger.proofs.net.Net.share_one.Goals as goal
 
 pub returns-then-flow-ge-MAX_FLOWS-clause-tickets_of_all : goal.returns-then-flow-ge-MAX_FLOWS-clause-tickets_of_all

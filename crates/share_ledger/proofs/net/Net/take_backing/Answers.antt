@@ -2,8 +2,8 @@ use Rattle.std.proofs.Common.{ℕ, true, false, List, ap, arith}
 use Rattle.std.proofs.lemmas.Bool.Decides.{nat_tests}
 use Rattle.share_ledger.specs.Arrays.{numbers_of}
 use Rattle.share_ledger.specs.FundingTickets.{backs_of, funds_of}
-use Rattle.share_ledger.proofs.NetMore.{gain-held, counted-taken, ticketed-less, ticketed-back, ranked-less}
-use Rattle.share_ledger.proofs.FundingCounts.{funding_ticket-there}
+use Rattle.share_ledger.proofs.FundingChangeLemmas.{gain-held, counted-taken, ticketed-less, ticketed-back, ranked-less}
+use Rattle.share_ledger.proofs.FundingCountLemmas.{funding_ticket-there}
 use Rattle.share_ledger.proofs.net.Net.take_backing.Goals as goal
 
 pub remove_funding_ticket-requires-clause-has : goal.remove_funding_ticket-requires-clause-has
@@ -12,8 +12,8 @@ remove_funding_ticket-requires-clause-has c =
     funding_ticket-there b.0 (backs_of c.args.tables.now) c.args.route.now c.args.self.now.backing.items b.1.1.0.backing
     c.requires.within.to_place b.1.1.1
 
-pub shrink-requires-clause-held : goal.shrink-requires-clause-held
-shrink-requires-clause-held c =
+pub subtract_one-requires-clause-held : goal.subtract_one-requires-clause-held
+subtract_one-requires-clause-held c =
     let g = c.args.tables.now in
     let r = c.args.route.now in
     let b = c.requires.begun in
@@ -48,7 +48,7 @@ returns-clause-begun c =
       listed = was.listed;
       active_is = was.active_is;
       counted = counted-taken _ _ _ _ r true false _ _ gb gf _ _ was.counted (λ p lt.
-          let shrank = c.shrink.ensures p lt in
+          let shrank = c.subtract_one.ensures p lt in
           let amount = c.amount_if-amount.ensures in
           grind (arith, nat_tests));
       small = was.small;

@@ -4,8 +4,8 @@ use Rattle.share_model.specs.declared.funding.OpenFlow.{OpenFlow}
 use Rattle.share_model.specs.funding.Graph.{Graph}
 use Rattle.share_model.specs.funding.Changes.{add_flow_refusal, add_flow}
 use Rattle.share_model.specs.funding.Kept.{IsKept}
-use Rattle.share_model.proofs.lemmas.funding.FlowLaws.{kept-add_flow}
-use Rattle.share_ledger.proofs.Lays.{lay, fresh-flow}
+use Rattle.share_model.proofs.lemmas.funding.FlowLemmas.{kept-add_flow}
+use Rattle.share_ledger.proofs.TableLemmas.{lay, fresh-flow}
 use Rattle.share_ledger.proofs.tables.Tables.add_flow.Goals as goal
 
 pub invariant_of-self-2 : goal.invariant_of-self-2

@@ -3,10 +3,10 @@ use Rattle.std.proofs.Common.{sym, ap, ◌∙◌, true≢false, arith}
 use Rattle.std.proofs.lemmas.Bool.Decides.{nat_tests}
 use Rattle.share_base.specs.declared.refusal.Refusal.{Refusal}
 use Rattle.share_base.specs.declared.refusal.Refusal.TheVariants.{Cycle, Deep}
-use Rattle.share_model.proofs.lemmas.funding.ChangeLaws.{stands}
-use Rattle.share_model.proofs.lemmas.lists.Laws.{each-find}
-use Rattle.share_ledger.proofs.CyclePlaces.{cycle-backs, below-stands, tall-funded}
-use Rattle.share_ledger.proofs.Places.{IsPlaced, placed, place-base}
+use Rattle.share_model.proofs.lemmas.funding.RefusalLemmas.{stands}
+use Rattle.share_model.proofs.lemmas.lists.FirstItemLemmas.{each-find}
+use Rattle.share_ledger.proofs.CycleLemmas.{cycle-backs, below-stands, tall-funded}
+use Rattle.share_ledger.proofs.PlaceLemmas.{IsPlaced, placed, place-base}
 use Rattle.share_ledger.proofs.tables.Tables.chain_refusal.Goals as goal
 
 refusal : {cycle deep : Bool} (a b : Bool) → cycle ≡ a → deep ≡ b

@@ -1,8 +1,8 @@
 use Rattle.std.proofs.Common.{List, length, ap, ◌∙◌}
-use Rattle.share_model.proofs.lemmas.funding.ChangeLaws.{stands}
+use Rattle.share_model.proofs.lemmas.funding.RefusalLemmas.{stands}
 use Rattle.share_ledger.specs.declared.funding_tickets.FundingTicket.{FundingTicket}
 use Rattle.share_ledger.specs.FundingTickets.{funding_tickets_at}
-use Rattle.share_ledger.proofs.FundingCounts.{backing-count}
+use Rattle.share_ledger.proofs.FundingCountLemmas.{backing-count}
 use Rattle.share_ledger.proofs.tables.Tables.count_backing.Goals as goal
 
 pub place_of-requires : goal.place_of-requires

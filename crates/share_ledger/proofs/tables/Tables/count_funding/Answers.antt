@@ -1,8 +1,8 @@
 use Rattle.std.proofs.Common.{sym, ◌∙◌, arith}
-use Rattle.share_ledger.proofs.Positions.{position-first, position-none, flow-first, flow-none}
-use Rattle.share_ledger.proofs.RouteLists.{flow-place-first, unopened}
-use Rattle.share_ledger.proofs.RouteWorths.{flow-place-below}
-use Rattle.share_ledger.proofs.FundingCounts.{first-open, funding-count}
+use Rattle.share_ledger.proofs.FirstItemLemmas.{position-first, position-none, flow-first, flow-none}
+use Rattle.share_ledger.proofs.RouteListLemmas.{flow-place-first, unopened}
+use Rattle.share_ledger.proofs.RouteWorthLemmas.{flow-place-below}
+use Rattle.share_ledger.proofs.FundingCountLemmas.{first-open, funding-count}
 use Rattle.share_ledger.proofs.tables.Tables.count_funding.Goals as goal
 use Rattle.std.proofs.lemmas.Bool.Decides.{nat_tests}
 

@@ -1,5 +1,5 @@
 use Rattle.std.proofs.Common.{sym, ◌∙◌}
-use Rattle.share_model.proofs.lemmas.funding.TicketLaws.{kept-fund_currency}
+use Rattle.share_model.proofs.lemmas.funding.TicketLemmas.{kept-fund_currency}
 use Rattle.share_ledger.proofs.tables.Tables.fund_currency.Goals as goal
 
 pub give-requires : goal.give-requires

@@ -3,7 +3,7 @@ use Rattle.share_model.specs.declared.funding.Holder.TheVariants.{Flow}
 use Rattle.share_model.specs.declared.funding.OpenFlow.{OpenFlow}
 use Rattle.share_model.specs.funding.Changes.{flow_number, with_holder}
 use Rattle.share_model.specs.funding.Kept.{IsKept}
-use Rattle.share_model.proofs.lemmas.funding.TicketLaws.{kept-fund_flow}
+use Rattle.share_model.proofs.lemmas.funding.TicketLemmas.{kept-fund_flow}
 use Rattle.share_ledger.proofs.tables.Tables.fund_flow.Goals as goal
 
 pub give-requires : goal.give-requires

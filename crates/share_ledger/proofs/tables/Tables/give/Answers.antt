@@ -3,8 +3,8 @@ use Rattle.share_model.specs.declared.funding.Ticket.{Ticket}
 use Rattle.share_model.specs.funding.Graph.{Graph}
 use Rattle.share_model.specs.funding.Changes.{is_numbered, held_by, with_holder}
 use Rattle.share_model.specs.funding.Kept.{IsKept}
-use Rattle.share_ledger.proofs.Lays.{lay}
-use Rattle.share_ledger.proofs.Positions.{position-none, found-ticket, changed-first, changed-none}
+use Rattle.share_ledger.proofs.TableLemmas.{lay}
+use Rattle.share_ledger.proofs.FirstItemLemmas.{position-none, found-ticket, changed-first, changed-none}
 use Rattle.share_ledger.proofs.tables.Tables.give.Goals as goal
 
 pub invariant_of-self : goal.invariant_of-self

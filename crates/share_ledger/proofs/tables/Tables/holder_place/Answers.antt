@@ -1,8 +1,8 @@
 use Rattle.std.proofs.Common.{sym, ap, subst, ◌∙◌, arith}
 use Rattle.share_model.specs.funding.Kept.{IsHolderKnown}
 use Rattle.share_ledger.specs.Routes.{holder_place}
-use Rattle.share_ledger.proofs.Positions.{position-first, position-none, flow-first, flow-none}
-use Rattle.share_ledger.proofs.RouteLists.{flow-place-first, unopened}
+use Rattle.share_ledger.proofs.FirstItemLemmas.{position-first, position-none, flow-first, flow-none}
+use Rattle.share_ledger.proofs.RouteListLemmas.{flow-place-first, unopened}
 use Rattle.share_ledger.proofs.tables.Tables.holder_place.Goals as goal
 
 pub returns-in-Some : goal.returns-in-Some

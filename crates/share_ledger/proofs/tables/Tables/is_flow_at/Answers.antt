@@ -1,6 +1,6 @@
 use Rattle.std.proofs.Common.{◌∙◌, sym}
 use Rattle.share_model.specs.lists.Rises.{Rises}
-use Rattle.share_ledger.proofs.Numbers.{flow-at}
+use Rattle.share_ledger.proofs.NumberLemmas.{flow-at}
 use Rattle.share_ledger.proofs.tables.Tables.is_flow_at.Goals as goal
 
 pub returns-in-Some : goal.returns-in-Some

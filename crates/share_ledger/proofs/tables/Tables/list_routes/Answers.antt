@@ -1,6 +1,6 @@
 use Rattle.std.proofs.Common.{refl, arith}
 use Rattle.share_ledger.specs.Routes.{routes_of}
-use Rattle.share_ledger.proofs.RouteLists.{listed-more, listed-skip}
+use Rattle.share_ledger.proofs.RouteListLemmas.{listed-more, listed-skip}
 use Rattle.share_ledger.proofs.tables.Tables.list_routes.Goals.{then-is_kind, else-is_kind}
 use Rattle.share_ledger.proofs.tables.Tables.list_routes.Goals as goal
 use Rattle.std.proofs.lemmas.Bool.Decides.{nat_tests}

@@ -1,9 +1,9 @@
 use Rattle.std.proofs.Common.{◌≡◌, None, sym, subst, ◌∙◌}
 use Rattle.share_model.specs.funding.Changes.{make_currency_refusal}
 use Rattle.share_model.specs.funding.Kept.{IsKept}
-use Rattle.share_model.proofs.lemmas.funding.CurrencyLaws.{kept-make_currency}
-use Rattle.share_ledger.proofs.Lays.{lay, fresh-currency}
-use Rattle.share_ledger.proofs.Positions.{insert-new}
+use Rattle.share_model.proofs.lemmas.funding.CurrencyLemmas.{kept-make_currency}
+use Rattle.share_ledger.proofs.TableLemmas.{lay, fresh-currency}
+use Rattle.share_ledger.proofs.FirstItemLemmas.{insert-new}
 use Rattle.share_ledger.proofs.tables.Tables.make_currency.Goals as goal
 
 pub invariant_of-self-2 : goal.invariant_of-self-2

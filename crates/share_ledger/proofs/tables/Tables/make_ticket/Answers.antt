@@ -1,8 +1,8 @@
 use Rattle.std.proofs.Common.{◌≡◌, ◌+◌, None, sym, subst, ◌∙◌}
 use Rattle.share_model.specs.funding.Changes.{make_ticket_refusal}
 use Rattle.share_model.specs.funding.Kept.{IsKept}
-use Rattle.share_model.proofs.lemmas.funding.TicketLaws.{kept-make_ticket}
-use Rattle.share_ledger.proofs.Lays.{lay}
+use Rattle.share_model.proofs.lemmas.funding.TicketLemmas.{kept-make_ticket}
+use Rattle.share_ledger.proofs.TableLemmas.{lay}
 use Rattle.share_ledger.proofs.tables.Tables.make_ticket.Goals as goal
 
 pub invariant_of-self-2 : goal.invariant_of-self-2

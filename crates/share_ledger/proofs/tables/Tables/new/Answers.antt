@@ -3,7 +3,7 @@ use Rattle.share_model.specs.declared.funding.Ticket.{Ticket}
 use Rattle.share_model.specs.declared.funding.OpenFlow.{OpenFlow}
 use Rattle.share_model.specs.funding.Graph.{NameBytes, Graph}
 use Rattle.share_model.specs.funding.Kept.{IsKept}
-use Rattle.share_model.proofs.lemmas.funding.CurrencyLaws.{kept-empty}
+use Rattle.share_model.proofs.lemmas.funding.CurrencyLemmas.{kept-empty}
 use Rattle.share_ledger.proofs.tables.Tables.new.Goals as goal
 
 lay : List NameBytes → List Ticket → List (NameBytes × OpenFlow) → Graph

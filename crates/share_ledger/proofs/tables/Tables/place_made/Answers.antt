@@ -1,7 +1,7 @@
 use Rattle.std.proofs.Common.{◌≡◌, bytes_eq, Some, position, sym, subst, ◌∙◌}
 use Rattle.share_model.specs.funding.Graph.{Graph}
-use Rattle.share_ledger.proofs.Places.{place-of_made}
-use Rattle.share_ledger.proofs.Positions.{position-first}
+use Rattle.share_ledger.proofs.PlaceLemmas.{place-of_made}
+use Rattle.share_ledger.proofs.FirstItemLemmas.{position-first}
 use Rattle.share_ledger.proofs.tables.Tables.place_made.Goals as goal
 
 pub returns-in-Some : goal.returns-in-Some

@@ -1,7 +1,7 @@
 use Rattle.std.proofs.Common.{◌≡◌, bytes_eq, None, Some, position, sym, subst, ◌∙◌, arith}
 use Rattle.share_model.specs.funding.Graph.{Graph}
-use Rattle.share_ledger.proofs.Places.{no-place, place-of_base, place-of_made}
-use Rattle.share_ledger.proofs.Positions.{position-first, position-none}
+use Rattle.share_ledger.proofs.PlaceLemmas.{no-place, place-of_base, place-of_made}
+use Rattle.share_ledger.proofs.FirstItemLemmas.{position-first, position-none}
 use Rattle.share_ledger.proofs.tables.Tables.place_of.Goals as goal
 
 pub returns-then-is_base-clause-value : goal.returns-then-is_base-clause-value

@@ -1,8 +1,8 @@
 use Rattle.std.proofs.Common.{◌≡◌, None, sym, subst, ◌∙◌}
 use Rattle.share_model.specs.funding.Changes.{remove_currency_refusal}
 use Rattle.share_model.specs.funding.Kept.{IsKept}
-use Rattle.share_model.proofs.lemmas.funding.CurrencyLaws.{kept-remove_currency}
-use Rattle.share_ledger.proofs.Lays.{lay}
+use Rattle.share_model.proofs.lemmas.funding.CurrencyLemmas.{kept-remove_currency}
+use Rattle.share_ledger.proofs.TableLemmas.{lay}
 use Rattle.share_ledger.proofs.tables.Tables.remove_currency.Goals as goal
 
 pub invariant_of-self : goal.invariant_of-self

@@ -1,10 +1,10 @@
 use Rattle.std.proofs.Common.{map, sym, ap, subst, ◌∙◌}
 use Rattle.share_model.specs.funding.Changes.{is_open_as, release_from, remove_flow}
 use Rattle.share_model.specs.funding.Kept.{IsKept}
-use Rattle.share_model.proofs.lemmas.funding.FlowLaws.{kept-remove_flow}
-use Rattle.share_ledger.proofs.Lays.{lay, written-whole}
-use Rattle.share_ledger.proofs.Positions.{found-flow, no-flow, remove-first}
-use Rattle.share_ledger.proofs.Positions.{remove-none}
+use Rattle.share_model.proofs.lemmas.funding.FlowLemmas.{kept-remove_flow}
+use Rattle.share_ledger.proofs.TableLemmas.{lay, written-whole}
+use Rattle.share_ledger.proofs.FirstItemLemmas.{found-flow, no-flow, remove-first}
+use Rattle.share_ledger.proofs.FirstItemLemmas.{remove-none}
 use Rattle.share_ledger.proofs.tables.Tables.remove_flow.Goals as goal
 
 pub invariant_of-self : goal.invariant_of-self

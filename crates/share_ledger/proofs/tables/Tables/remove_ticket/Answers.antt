@@ -1,9 +1,9 @@
 use Rattle.std.proofs.Common.{sym, ap, subst, ◌∙◌}
 use Rattle.share_model.specs.funding.Changes.{is_numbered, remove_ticket}
 use Rattle.share_model.specs.funding.Kept.{IsKept}
-use Rattle.share_model.proofs.lemmas.funding.TicketLaws.{kept-remove_ticket}
-use Rattle.share_ledger.proofs.Lays.{lay}
-use Rattle.share_ledger.proofs.Positions.{position-none, found-ticket, remove-first, remove-none}
+use Rattle.share_model.proofs.lemmas.funding.TicketLemmas.{kept-remove_ticket}
+use Rattle.share_ledger.proofs.TableLemmas.{lay}
+use Rattle.share_ledger.proofs.FirstItemLemmas.{position-none, found-ticket, remove-first, remove-none}
 use Rattle.share_ledger.proofs.tables.Tables.remove_ticket.Goals as goal
 
 pub invariant_of-self : goal.invariant_of-self

@@ -1,9 +1,9 @@
 use Rattle.std.proofs.Common.{◌≡◌, Some, true≢false, option_copied, sym, ap, subst, ◌∙◌}
-use Rattle.share_model.proofs.lemmas.lists.Laws.{each-find}
+use Rattle.share_model.proofs.lemmas.lists.FirstItemLemmas.{each-find}
 use Rattle.share_model.specs.funding.Changes.{ticket_of, is_numbered, is_found_held}
 use Rattle.share_ledger.specs.Routes.{IsRouteWithin}
-use Rattle.share_ledger.proofs.Places.{IsPlaced, placed}
-use Rattle.share_ledger.proofs.RouteLists.{route-within}
+use Rattle.share_ledger.proofs.PlaceLemmas.{IsPlaced, placed}
+use Rattle.share_ledger.proofs.RouteListLemmas.{route-within}
 use Rattle.share_ledger.proofs.tables.Tables.route_of.Goals as goal
 
 pub unreachable-requires : goal.unreachable-requires

@@ -5,11 +5,11 @@ use Rattle.std.proofs.lemmas.Option.{get_or_from_slice_get}
 use Rattle.share_model.specs.declared.funding.OpenFlow.{OpenFlow}
 use Rattle.share_model.specs.funding.Changes.{is_open_as, active_as, set_active}
 use Rattle.share_model.specs.funding.Kept.{IsKept}
-use Rattle.share_model.proofs.lemmas.funding.FlowLaws.{kept-set_active}
-use Rattle.share_ledger.proofs.FlowShares.{stands-so, activity-left}
-use Rattle.share_ledger.proofs.Lays.{lay}
-use Rattle.share_ledger.proofs.Positions.{position-none, flow-none, found-flow, activity-first}
-use Rattle.share_ledger.proofs.Positions.{changed-none}
+use Rattle.share_model.proofs.lemmas.funding.FlowLemmas.{kept-set_active}
+use Rattle.share_ledger.proofs.FlowTicketLemmas.{stands-so, activity-left}
+use Rattle.share_ledger.proofs.TableLemmas.{lay}
+use Rattle.share_ledger.proofs.FirstItemLemmas.{position-none, flow-none, found-flow, activity-first}
+use Rattle.share_ledger.proofs.FirstItemLemmas.{changed-none}
 use Rattle.share_ledger.proofs.tables.Tables.set_active.Goals as goal
 
 pub invariant_of-self : goal.invariant_of-self

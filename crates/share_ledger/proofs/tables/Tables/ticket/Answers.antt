@@ -1,7 +1,7 @@
 use Rattle.std.proofs.Common.{◌≡◌, Some, position, sym, ap, subst, ◌∙◌}
 use Rattle.share_model.specs.funding.Graph.{Graph}
 use Rattle.share_model.specs.funding.Changes.{is_numbered, ticket_of}
-use Rattle.share_ledger.proofs.Positions.{find-first, find-none, position-first, position-none}
+use Rattle.share_ledger.proofs.FirstItemLemmas.{find-first, find-none, position-first, position-none}
 use Rattle.share_ledger.proofs.tables.Tables.ticket.Goals as goal
 
 pub returns-in-None : goal.returns-in-None

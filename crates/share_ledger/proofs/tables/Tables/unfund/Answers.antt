@@ -1,4 +1,4 @@
-use Rattle.share_model.proofs.lemmas.funding.TicketLaws.{kept-unfund}
+use Rattle.share_model.proofs.lemmas.funding.TicketLemmas.{kept-unfund}
 use Rattle.share_ledger.proofs.tables.Tables.unfund.Goals as goal
 
 pub give-requires : goal.give-requires

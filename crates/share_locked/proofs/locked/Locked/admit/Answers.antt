@@ -1,8 +1,8 @@
 use Rattle.std.proofs.Common.{◌∙◌, ap, sym}
 use Rattle.share_model.specs.link.Calls.{is_spent}
-use Rattle.share_model.proofs.lemmas.link.VersionLaws.{arrive-version}
+use Rattle.share_model.proofs.lemmas.link.VersionLemmas.{arrive-version}
 use Rattle.share_ingress.specs.Ends.{IntakeView}
-use Rattle.share_locked.proofs.Steps.{admitted_kept}
+use Rattle.share_locked.proofs.CallLemmas.{admitted_kept}
 use Rattle.share_locked.proofs.locked.Locked.admit.Goals as goal
 
 pub invariant_of-self-2 : goal.invariant_of-self-2

@@ -1,6 +1,6 @@
 use Rattle.std.proofs.Common.{◌∙◌}
-use Rattle.share_model.proofs.lemmas.link.VersionLaws.{command-version}
-use Rattle.share_locked.proofs.Steps.{command_kept}
+use Rattle.share_model.proofs.lemmas.link.VersionLemmas.{command-version}
+use Rattle.share_locked.proofs.CallLemmas.{command_kept}
 use Rattle.share_locked.proofs.locked.Locked.command.Goals as goal
 
 pub invariant_of-self : goal.invariant_of-self

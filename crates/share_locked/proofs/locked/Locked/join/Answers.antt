@@ -2,7 +2,7 @@ use Rattle.std.proofs.Common.{◌∙◌, ap, rules}
 use Rattle.std.specs.Prelude.{count_by}
 use Rattle.share_ingress.specs.Gathers.{Gathered}
 use Rattle.share_journal.specs.Entries.{JournalView}
-use Rattle.share_locked.proofs.Ending.{joined_of}
+use Rattle.share_locked.proofs.SettlingLemmas.{joined_of}
 use Rattle.share_locked.specs.Receipts.{is_arrival, is_command}
 use Rattle.share_locked.proofs.locked.Locked.join.Goals as goal
 

@@ -1,5 +1,5 @@
 use Rattle.std.proofs.Common.{arith}
-use Rattle.share_locked.proofs.Steps.{arrivals-none}
+use Rattle.share_locked.proofs.CallLemmas.{arrivals-none}
 use Rattle.share_locked.proofs.locked.Locked.new.Goals as goal
 
 pub invariant_of-result : goal.invariant_of-result

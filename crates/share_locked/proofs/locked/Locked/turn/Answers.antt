@@ -1,6 +1,6 @@
 use Rattle.std.proofs.Common.{◌∙◌, ap}
-use Rattle.share_model.proofs.lemmas.link.VersionLaws.{turn-version}
-use Rattle.share_journal.proofs.ArrivalLaws.{arrivals-turn}
+use Rattle.share_model.proofs.lemmas.link.VersionLemmas.{turn-version}
+use Rattle.share_journal.proofs.ArrivalLemmas.{arrivals-turn}
 use Rattle.share_journal.specs.Arrivals.{arrivals}
 use Rattle.share_locked.proofs.locked.Locked.turn.Goals as goal
 

@@ -1,5 +1,5 @@
 use Rattle.std.proofs.Common.{◌≡◌, [], ◌∷◌, rules}
-use Rattle.share_locked.proofs.Agreeing.{front_is}
+use Rattle.share_locked.proofs.ReceiptLemmas.{front_is}
 use Rattle.share_locked.proofs.locked.settling.after_entry.Goals as goal
 
 pub returns-then-is_same : goal.returns-then-is_same

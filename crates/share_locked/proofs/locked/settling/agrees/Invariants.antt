@@ -1,5 +1,5 @@
 use Rattle.std.proofs.Common.{◌≡◌, ◌+◌, length}
-use Rattle.share_locked.proofs.Agreeing.{AgreesSoFar}
+use Rattle.share_locked.proofs.ReceiptLemmas.{AgreesSoFar}
 use Rattle.share_locked.proofs.locked.settling.agrees.Given as goal
 
 abbrev pub invariant-loop-entry : goal.invariant-loop-entry

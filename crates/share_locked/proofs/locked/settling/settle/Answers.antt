@@ -1,6 +1,6 @@
 use Rattle.std.proofs.Common.{◌≡◌, ◌∙◌, sym, refl, rules}
 use Rattle.share_ingress.specs.Gathers.{RefusesToGather}
-use Rattle.share_locked.proofs.Ending.{agreed_of, settled_of, unsettles_of}
+use Rattle.share_locked.proofs.SettlingLemmas.{agreed_of, settled_of, unsettles_of}
 use Rattle.share_locked.specs.Settles.{IsJoined}
 use Rattle.share_locked.proofs.locked.settling.settle.Goals as goal
 

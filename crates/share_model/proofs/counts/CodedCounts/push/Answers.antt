@@ -1,5 +1,5 @@
 use Rattle.std.proofs.Common.{◌/◌, ◌+◌, ap}
-use Rattle.share_model.proofs.lemmas.io.CountBytes.{counts_in-resized, small-resized}
+use Rattle.share_model.proofs.lemmas.io.CountEncodingLemmas.{counts_in-resized, small-resized}
 use Rattle.share_model.proofs.counts.CodedCounts.push.Goals as goal
 
 pub returns-clause-ok : goal.returns-clause-ok

@@ -1,7 +1,7 @@
 use Rattle.std.proofs.Common.{Some, set, ap, ◌∙◌}
 use Rattle.share_stride.specs.Heap.{Standings, standing_under}
-use Rattle.share_stride.proofs.HeapLaws.{seat_read, entering_lifted, entering_few, entering_open, IsHeap-entered}
-use Rattle.share_stride.proofs.HeapLaws.{standings-entered}
+use Rattle.share_stride.proofs.HeapLemmas.{seat_read, entering_lifted, entering_few, entering_open, IsHeap-entered}
+use Rattle.share_stride.proofs.HeapLemmas.{standings-entered}
 use Rattle.share_stride.proofs.heap.Heap.enter.Goals as goal
 
 pub sift-requires-clause-lifted : goal.sift-requires-clause-lifted

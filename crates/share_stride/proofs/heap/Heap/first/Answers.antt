@@ -3,7 +3,7 @@ use Rattle.std.proofs.lemmas.List.{get_or_default}
 use Rattle.share_stride.specs.declared.seating.HeapEntry.{HeapEntry}
 use Rattle.share_stride.specs.Seating.{no_entry, entry_in_seat}
 use Rattle.share_stride.specs.Heap.{Standings, standings_of, IsFirstStanding}
-use Rattle.share_stride.proofs.HeapLaws.{IsFirstStanding-none, IsFirstStanding-some}
+use Rattle.share_stride.proofs.HeapLemmas.{IsFirstStanding-none, IsFirstStanding-some}
 use Rattle.share_stride.proofs.heap.Heap.first.Goals as goal
 
 pub returns-then-self-eq0 : goal.returns-then-self-eq0

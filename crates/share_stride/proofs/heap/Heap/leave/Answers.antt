@@ -1,7 +1,7 @@
 use Rattle.std.proofs.Common.{IsSome, None, refl, sym, ap, subst, ◌∙◌, set}
 use Rattle.share_stride.specs.Heap.{Standings, standing_under}
-use Rattle.share_stride.proofs.HeapLaws.{seat_read, stands_within, leaving_few, leaving_open, leaving_ordered}
-use Rattle.share_stride.proofs.HeapLaws.{IsHeap-left, standings-left}
+use Rattle.share_stride.proofs.HeapLemmas.{seat_read, stands_within, leaving_few, leaving_open, leaving_ordered}
+use Rattle.share_stride.proofs.HeapLemmas.{IsHeap-left, standings-left}
 use Rattle.share_stride.proofs.heap.Heap.leave.Goals as goal
 
 pub resift-requires-clause-few : goal.resift-requires-clause-few

@@ -1,5 +1,5 @@
 use Rattle.std.proofs.Common.{None, replicate, ap, ◌∙◌}
-use Rattle.share_stride.proofs.HeapLaws.{standings_of-none}
+use Rattle.share_stride.proofs.HeapLemmas.{standings_of-none}
 use Rattle.share_stride.proofs.heap.Heap.new.Goals as goal
 
 pub returns : goal.returns

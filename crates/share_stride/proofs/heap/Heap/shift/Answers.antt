@@ -1,6 +1,6 @@
 use Rattle.std.proofs.Common.{IsSome, Some, sym, ap, subst, ◌∙◌, set}
 use Rattle.share_stride.specs.Heap.{Standings, standing_under}
-use Rattle.share_stride.proofs.HeapLaws.{seat_read, stands_within, shifting_lifted, shifting_open, standings-shifted}
+use Rattle.share_stride.proofs.HeapLemmas.{seat_read, stands_within, shifting_lifted, shifting_open, standings-shifted}
 use Rattle.share_stride.proofs.heap.Heap.shift.Goals as goal
 
 pub sift-requires-clause-lifted : goal.sift-requires-clause-lifted

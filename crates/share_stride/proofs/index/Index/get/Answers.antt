@@ -1,7 +1,7 @@
 use Rattle.std.proofs.Common.{sym, ap, ◌∙◌, Some}
 use Rattle.std.specs.FinMap.{get}
 use Rattle.std.proofs.lemmas.List.{get_or_default}
-use Rattle.share_stride.proofs.IndexLaws.{get_at, get_in_gap}
+use Rattle.share_stride.proofs.IndexLemmas.{get_at, get_in_gap}
 use Rattle.share_stride.proofs.index.Index.get.Goals as goal
 
 pub returns-in-Err : goal.returns-in-Err

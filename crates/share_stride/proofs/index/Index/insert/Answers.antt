@@ -3,7 +3,7 @@ use Rattle.std.specs.List.{insert}
 use Rattle.std.specs.FinMap as map
 use Rattle.std.specs.FinMap.{get, len}
 use Rattle.std.proofs.lemmas.Bool.{cond-true}
-use Rattle.share_stride.proofs.IndexLaws.{get_at, key_map-insert, IsRising-insert, len-key_map}
+use Rattle.share_stride.proofs.IndexLemmas.{get_at, key_map-insert, IsRising-insert, len-key_map}
 use Rattle.share_stride.proofs.index.Index.insert.Goals as goal
 
 -- there is room for one more pair

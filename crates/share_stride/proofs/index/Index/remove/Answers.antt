@@ -1,8 +1,8 @@
 use Rattle.std.proofs.Common.{sym, ap, ◌∙◌, Some}
 use Rattle.std.specs.FinMap.{get, remove}
 use Rattle.std.proofs.lemmas.List.{get_or_default}
-use Rattle.share_model.proofs.lemmas.stride.MapLaws.{remove_absent}
-use Rattle.share_stride.proofs.IndexLaws.{get_at, get_in_gap, key_map-remove}
+use Rattle.share_model.proofs.lemmas.stride.MapLemmas.{remove_absent}
+use Rattle.share_stride.proofs.IndexLemmas.{get_at, get_in_gap, key_map-remove}
 use Rattle.share_stride.proofs.index.Index.remove.Goals as goal
 
 pub returns-in-Err-clause-key : goal.returns-in-Err-clause-key

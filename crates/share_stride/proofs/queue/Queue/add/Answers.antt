@@ -1,7 +1,7 @@
 use Rattle.std.proofs.Common.{ap, ◌∙◌, arith}
 use Rattle.share_model.specs.stride.Moves.{Stride}
 use Rattle.std.specs.FinMap.{get}
-use Rattle.share_stride.proofs.Soundness.{IsInStep-added}
+use Rattle.share_stride.proofs.SoundQueueLemmas.{IsInStep-added}
 use Rattle.share_stride.proofs.queue.Queue.add.Goals as goal
 
 pub add-requires-clause-room : goal.add-requires-clause-room

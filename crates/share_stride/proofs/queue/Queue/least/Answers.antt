@@ -1,6 +1,6 @@
 use Rattle.std.proofs.Common.{ap, ◌∙◌}
 use Rattle.share_model.specs.stride.Moves.{Stride, next}
-use Rattle.share_model.proofs.lemmas.stride.NextLaws.{next_is}
+use Rattle.share_model.proofs.lemmas.stride.NextFlowLemmas.{next_is}
 use Rattle.share_stride.proofs.queue.Queue.least.Goals as goal
 
 pub returns-clause-next : goal.returns-clause-next

@@ -1,4 +1,4 @@
-use Rattle.share_stride.proofs.Soundness.{IsInStep-empty_queue}
+use Rattle.share_stride.proofs.SoundQueueLemmas.{IsInStep-empty_queue}
 use Rattle.share_stride.proofs.queue.Queue.new.Goals as goal
 
 pub invariant_of-result : goal.invariant_of-result

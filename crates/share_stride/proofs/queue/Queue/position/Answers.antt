@@ -1,6 +1,6 @@
 use Rattle.std.proofs.Common.{ap, ◌∙◌}
 use Rattle.std.specs.FinMap.{get}
-use Rattle.share_stride.proofs.Soundness.{near_in_view}
+use Rattle.share_stride.proofs.SoundQueueLemmas.{near_in_view}
 use Rattle.share_stride.proofs.queue.Queue.position.Goals as goal
 
 pub returns-clause-near : goal.returns-clause-near

@@ -1,7 +1,7 @@
 use Rattle.std.proofs.Common.{ap, sym, subst, ◌∙◌, IsSome}
 use Rattle.std.specs.FinMap.{get}
 use Rattle.share_model.specs.stride.Moves.{Stride, client}
-use Rattle.share_stride.proofs.Soundness.{IsInStep-removed}
+use Rattle.share_stride.proofs.SoundQueueLemmas.{IsInStep-removed}
 use Rattle.share_stride.proofs.queue.Queue.remove.Goals as goal
 
 pub invariant_of-self : goal.invariant_of-self

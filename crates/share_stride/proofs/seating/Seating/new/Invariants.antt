@@ -1,4 +1,4 @@
-use Rattle.share_stride.proofs.Seats.{IsIdle}
+use Rattle.share_stride.proofs.SeatLemmas.{IsIdle}
 use Rattle.share_stride.proofs.seating.Seating.new.Given as goal
 
 abbrev pub invariant-loop-key : goal.invariant-loop-key

@@ -1,4 +1,4 @@
-use Rattle.share_stride.proofs.SeatingLaws.{HoleRises-step}
+use Rattle.share_stride.proofs.SeatingLemmas.{HoleRises-step}
 use Rattle.share_stride.proofs.seating.Seating.rise.Goals as goal
 
 pub loop-from-preserved : goal.loop-from-preserved

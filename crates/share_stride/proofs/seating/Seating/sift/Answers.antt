@@ -1,5 +1,5 @@
 use Rattle.share_stride.specs.Seating.{HoleSinks, FitsBelow}
-use Rattle.share_stride.proofs.SeatingLaws.{Sifts-place, HoleSinks-risen}
+use Rattle.share_stride.proofs.SeatingLemmas.{Sifts-place, HoleSinks-risen}
 use Rattle.share_stride.proofs.seating.Seating.sift.Goals as goal
 use Rattle.share_stride.proofs.seating.Seating.sift.Goals.{in-None, in-Some}
 

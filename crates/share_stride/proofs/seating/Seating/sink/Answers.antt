@@ -1,4 +1,4 @@
-use Rattle.share_stride.proofs.SeatingLaws.{HoleSinks-step}
+use Rattle.share_stride.proofs.SeatingLemmas.{HoleSinks-step}
 use Rattle.share_stride.proofs.seating.Seating.sink.Goals as goal
 
 pub loop-from-preserved : goal.loop-from-preserved

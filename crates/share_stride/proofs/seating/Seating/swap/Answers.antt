@@ -1,7 +1,7 @@
 use Rattle.std.proofs.Common.{◌≡◌, ◌∙◌}
 use Rattle.std.proofs.lemmas.List.{get_or_default}
 use Rattle.share_stride.specs.Seating.{no_entry, entry_in_seat}
-use Rattle.share_stride.proofs.Seats.{Swaps-swap}
+use Rattle.share_stride.proofs.SeatLemmas.{Swaps-swap}
 use Rattle.share_stride.proofs.seating.Seating.swap.Goals as goal
 
 pub returns : goal.returns

@@ -1,10 +1,10 @@
 use Rattle.std.proofs.Common.{Some, ap, sym, ◌∙◌, ◌+◌, arith}
 use Rattle.std.specs.FinMap.{get, insert, len}
-use Rattle.share_model.proofs.lemmas.stride.MapLaws.{len-insert_new}
+use Rattle.share_model.proofs.lemmas.stride.MapLemmas.{len-insert_new}
 use Rattle.share_stride.specs.Table.{Clients, entry_in}
-use Rattle.share_stride.proofs.TableLaws.{len-client_map}
-use Rattle.share_stride.proofs.KeyLaws.{distinct, keyless_of_absent, IsIndexed-add, client_map-add}
-use Rattle.share_stride.proofs.RankLaws.{IsRanked-idle, entry_of-idle, key_fits-written}
+use Rattle.share_stride.proofs.TableLemmas.{len-client_map}
+use Rattle.share_stride.proofs.KeyLemmas.{distinct, keyless_of_absent, IsIndexed-add, client_map-add}
+use Rattle.share_stride.proofs.RankLemmas.{IsRanked-idle, entry_of-idle, key_fits-written}
 use Rattle.share_stride.proofs.table.Table.add.Goals as goal
 
 pub insert_reserved-key-requires : goal.insert_reserved-key-requires

@@ -1,4 +1,4 @@
-use Rattle.share_stride.proofs.ClientKeyLaws.{place_filled, client_found}
+use Rattle.share_stride.proofs.ClientKeyLemmas.{place_filled, client_found}
 use Rattle.share_stride.proofs.table.Table.at.Goals as goal
 
 pub unreachable-requires : goal.unreachable-requires

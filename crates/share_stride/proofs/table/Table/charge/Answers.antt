@@ -3,10 +3,10 @@ use Rattle.share_model.specs.declared.stride.Client.{Client}
 use Rattle.share_model.specs.stride.Moves.{after_charge, position}
 use Rattle.share_stride.specs.Fits.{IsWithin}
 use Rattle.share_stride.specs.Table.{with_client_at}
-use Rattle.share_stride.proofs.RankLaws.{after_charge-competes}
-use Rattle.share_stride.proofs.ClientKeyLaws.{place_filled, client_is_at, view_written, IsWellFormed-written}
-use Rattle.share_stride.proofs.ClientKeyLaws.{place_fits}
-use Rattle.share_stride.proofs.ClientKeyLaws.{stood_as}
+use Rattle.share_stride.proofs.RankLemmas.{after_charge-competes}
+use Rattle.share_stride.proofs.ClientKeyLemmas.{place_filled, client_is_at, view_written, IsWellFormed-written}
+use Rattle.share_stride.proofs.ClientKeyLemmas.{place_fits}
+use Rattle.share_stride.proofs.ClientKeyLemmas.{stood_as}
 use Rattle.share_stride.proofs.table.Table.charge.Goals as goal
 
 pub after_charge-slot-requires-clause-stride : goal.after_charge-slot-requires-clause-stride

@@ -6,10 +6,10 @@ use Rattle.share_model.specs.declared.stride.Client.{Client}
 use Rattle.share_model.specs.stride.Moves.{stride_of, after_join}
 use Rattle.share_stride.specs.Fits.{IsWithin}
 use Rattle.share_stride.specs.Table.{with_client_at}
-use Rattle.share_stride.proofs.RankLaws.{entry_of-read}
-use Rattle.share_stride.proofs.ClientKeyLaws.{place_filled, client_is_at, view_written, IsWellFormed-written}
-use Rattle.share_stride.proofs.ClientKeyLaws.{place_fits}
-use Rattle.share_stride.proofs.ClientKeyLaws.{stood_out}
+use Rattle.share_stride.proofs.RankLemmas.{entry_of-read}
+use Rattle.share_stride.proofs.ClientKeyLemmas.{place_filled, client_is_at, view_written, IsWellFormed-written}
+use Rattle.share_stride.proofs.ClientKeyLemmas.{place_fits}
+use Rattle.share_stride.proofs.ClientKeyLemmas.{stood_out}
 use Rattle.share_stride.proofs.table.Table.enter.Goals as goal
 
 pub after_join-slot-requires-clause-stride : goal.after_join-slot-requires-clause-stride

@@ -1,5 +1,5 @@
 use Rattle.std.proofs.Common.{refl, sym, true≢false}
-use Rattle.share_stride.proofs.ClientKeyLaws.{absent_in_view, there_in_view}
+use Rattle.share_stride.proofs.ClientKeyLemmas.{absent_in_view, there_in_view}
 use Rattle.share_stride.proofs.table.Table.find.Goals as goal
 
 pub returns-in-None-clause-there : goal.returns-in-None-clause-there

@@ -1,6 +1,6 @@
 use Rattle.std.proofs.Common.{Some, None}
-use Rattle.share_stride.proofs.KeyLaws.{distinct}
-use Rattle.share_stride.proofs.NextFlow.{IsNext-view}
+use Rattle.share_stride.proofs.KeyLemmas.{distinct}
+use Rattle.share_stride.proofs.NextFlowLemmas.{IsNext-view}
 use Rattle.share_stride.proofs.table.Table.least.Goals as goal
 
 pub returns-in-None : goal.returns-in-None

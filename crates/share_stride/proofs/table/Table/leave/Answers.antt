@@ -5,8 +5,9 @@ use Rattle.share_model.specs.stride.Moves.{after_leave}
 use Rattle.std.specs.Prelude.{pos, ◌-ℤ◌}
 use Rattle.share_stride.specs.Fits.{IsWithin}
 use Rattle.share_stride.specs.Table.{with_client_at}
-use Rattle.share_stride.proofs.RankLaws.{entry_of-idle}
-use Rattle.share_stride.proofs.ClientKeyLaws.{place_filled, client_is_at, view_written, IsWellFormed-written, stood_as}
+use Rattle.share_stride.proofs.RankLemmas.{entry_of-idle}
+use Rattle.share_stride.proofs.ClientKeyLemmas.{place_filled, client_is_at, view_written, IsWellFormed-written}
+use Rattle.share_stride.proofs.ClientKeyLemmas.{stood_as}
 use Rattle.share_stride.proofs.table.Table.leave.Goals as goal
 
 pub after_leave-slot-requires-clause-distance : goal.after_leave-slot-requires-clause-distance

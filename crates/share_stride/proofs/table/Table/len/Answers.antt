@@ -1,8 +1,8 @@
 use Rattle.std.proofs.Common.{ap, sym, ◌∙◌}
 use Rattle.std.specs.FinMap.{len}
 use Rattle.share_stride.specs.Table.{Clients}
-use Rattle.share_stride.proofs.TableLaws.{len-client_map}
-use Rattle.share_stride.proofs.KeyLaws.{distinct}
+use Rattle.share_stride.proofs.TableLemmas.{len-client_map}
+use Rattle.share_stride.proofs.KeyLemmas.{distinct}
 use Rattle.share_stride.proofs.table.Table.len.Goals as goal
 
 pub returns : goal.returns

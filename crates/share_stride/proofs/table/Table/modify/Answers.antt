@@ -2,12 +2,12 @@ use Rattle.std.proofs.Common.{◌≡◌, sym, ap, subst, ◌∙◌, ◌*◌, ◌
 use Rattle.share_model.specs.declared.stride.Client.{Client}
 use Rattle.share_model.specs.stride.Moves.{stride_of, after_join, after_leave}
 use Rattle.std.specs.Prelude.{pos, ◌-ℤ◌}
-use Rattle.share_model.proofs.lemmas.stride.DivisionLaws.{stride_of-le}
+use Rattle.share_model.proofs.lemmas.stride.DivisionLemmas.{stride_of-le}
 use Rattle.share_stride.specs.Fits.{IsWithin}
 use Rattle.share_stride.specs.Table.{with_client_at}
-use Rattle.share_stride.proofs.ClientKeyLaws.{place_filled, client_is_at, view_written, IsWellFormed-written}
-use Rattle.share_stride.proofs.ClientKeyLaws.{place_fits}
-use Rattle.share_stride.proofs.ClientKeyLaws.{stood_as}
+use Rattle.share_stride.proofs.ClientKeyLemmas.{place_filled, client_is_at, view_written, IsWellFormed-written}
+use Rattle.share_stride.proofs.ClientKeyLemmas.{place_fits}
+use Rattle.share_stride.proofs.ClientKeyLemmas.{stood_as}
 use Rattle.share_stride.proofs.table.Table.modify.Goals as goal
 
 pub after_leave-client-requires-clause-distance : goal.after_leave-client-requires-clause-distance

@@ -1,4 +1,4 @@
-use Rattle.share_stride.proofs.RankLaws.{IsWellFormed-new}
+use Rattle.share_stride.proofs.RankLemmas.{IsWellFormed-new}
 use Rattle.share_stride.proofs.table.Table.new.Goals as goal
 
 pub invariant_of-result : goal.invariant_of-result

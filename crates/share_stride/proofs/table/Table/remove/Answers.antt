@@ -1,13 +1,13 @@
 use Rattle.std.proofs.Common.{◌≡◌, Option, None, unwrap_or, refl, ap, sym, ◌∙◌, ◌-◌}
 use Rattle.std.specs.FinMap.{get, remove, len}
-use Rattle.share_model.proofs.lemmas.stride.MapLaws.{len-remove_found}
+use Rattle.share_model.proofs.lemmas.stride.MapLemmas.{len-remove_found}
 use Rattle.share_model.specs.declared.stride.Client.{Client}
 use Rattle.share_model.specs.stride.Moves.{new_client}
 use Rattle.share_stride.specs.Table.{Clients, client_map, entry_in}
-use Rattle.share_stride.proofs.TableLaws.{client_map-removal, client_of_slot}
-use Rattle.share_stride.proofs.KeyLaws.{distinct, key_holds, IsIndexed-removal}
-use Rattle.share_stride.proofs.RankLaws.{IsRanked-idle, entry_of-idle, key_fits-removed}
-use Rattle.share_stride.proofs.ClientKeyLaws.{absent_in_view}
+use Rattle.share_stride.proofs.TableLemmas.{client_map-removal, client_of_slot}
+use Rattle.share_stride.proofs.KeyLemmas.{distinct, key_holds, IsIndexed-removal}
+use Rattle.share_stride.proofs.RankLemmas.{IsRanked-idle, entry_of-idle, key_fits-removed}
+use Rattle.share_stride.proofs.ClientKeyLemmas.{absent_in_view}
 use Rattle.share_stride.proofs.table.Table.remove.Goals as goal
 
 pub unreachable-requires : goal.unreachable-requires

@@ -1,6 +1,6 @@
 use Rattle.std.proofs.Common.{arith}
 use Rattle.share_tariff.specs.Shelf.{rate_in}
-use Rattle.share_tariff.proofs.Shelves.{rate_at-read}
+use Rattle.share_tariff.proofs.ShelfLemmas.{rate_at-read}
 use Rattle.share_tariff.proofs.shelf.Shelf.get.Goals as goal
 
 pub returns : goal.returns

@@ -1,4 +1,4 @@
-//! The limit of serve.py: writes so many frames of so many bytes to an address, one write call each.
+//! The limit of serve.py: writes that many frames of that many bytes to an address, one write call each.
 
 use std::io::{self, Write};
 use std::net::TcpStream;

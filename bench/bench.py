@@ -59,7 +59,7 @@ def build_plain(folder):
 
 def compare(script, plain, folder):
     """Runs both programs ROUNDS times on a script and on twice its lines: {times: [(ours, plain's)]}, and how many
-    bytes were written of twice the lines. It stops where the outputs differ."""
+    bytes were written of twice the lines. It stops if the outputs differ."""
     found = {1: [], 2: []}
     path, *outputs = (os.path.join(folder, name) for name in ("script", "ours.output", "plain.output"))
     for times, rounds in found.items():
@@ -73,7 +73,7 @@ def compare(script, plain, folder):
 
 
 def written(output):
-    """How many bytes were written on the link, as the last line of an output tells them."""
+    """How many bytes were written on the link, as the last line of an output has them."""
     size = os.path.getsize(output)
     start = 0
     with open(output, "rb") as source:

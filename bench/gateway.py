@@ -3,9 +3,9 @@
 
 `gateway.py` prints processor time, user and system, of a packet that is taken and sent, and its instructions (by
 valgrind); the time of a byte of records and of a byte that is copied; and the time and the memory of `stridelink bill`
-for a text of 2^24 events. A time is the median of ROUNDS rounds in which the programs take turns, each the difference
-of a run of many rounds and one of few. Nothing is written but a folder in the system's temporary folder, which is
-removed.
+for a text of 2^24 events, and its memory for one that fills all buffers. A time is the median of ROUNDS rounds in which
+the programs take turns, each the difference of a run of many rounds and one of few. Nothing is written but a folder in
+the system's temporary folder, which is removed.
 """
 import os
 import re
@@ -24,6 +24,7 @@ STREAMS = 2_000
 RECORDS = 1000
 NANOSECONDS = 1e9
 EVENTS = 1 << 24
+TENANTS, LIMIT = 64, 1024
 
 
 def seconds(program, kind, size, rounds):
@@ -72,6 +73,17 @@ def write_text(path, size):
             sink.write(pair * 1024)
 
 
+def write_full_text(path):
+    """A text of lengths of 64 tenants whose buffers are all filled with the longest packets, and are then emptied."""
+    with open(path, "w", encoding="ascii") as sink:
+        sink.write("lengths 2\n")
+        for number in range(1, TENANTS + 1):
+            sink.write("open t%d %d 1\nmktkt 100 base\nfund %d flow t%d\n" % (number, LIMIT, number, number))
+        for number in range(1, TENANTS + 1):
+            sink.write("send t%d 9000\n" % number * LIMIT)
+        sink.write("turn 9017\n" * (TENANTS * LIMIT))
+
+
 def peak_memory(command):
     """The most memory of a program in bytes, looked at each 20 ms while it runs. What the system reports of a child
     that has ended counts the memory of its parent."""
@@ -94,6 +106,9 @@ def print_bills(folder):
         spent = run([PROGRAM, "bill", path], os.devnull, os.devnull).seconds
         print("a bill of 2^24 events, packets of %d bytes: %.1f s, %.1f MB"
               % (size, spent, peak_memory([PROGRAM, "bill", path]) / 1e6))
+    write_full_text(path)
+    print("a bill of %d buffers that are filled with %d packets of 9000 bytes: %.1f MB"
+          % (TENANTS, LIMIT, peak_memory([PROGRAM, "bill", path]) / 1e6))
 
 
 def main():

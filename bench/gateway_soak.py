@@ -14,7 +14,7 @@ tenants finish. What is drawn comes from SEED (the time unless set), which is pr
 - that the gateway answers all the while, and that its resident memory in the last minute is at most 1.1 of that after
   the first.
 
-Where nothing moves for a minute, the program ends. Texts take some 20 bytes a packet in the system's temporary folder,
+If nothing moves for a minute, the program ends. Texts take about 20 bytes a packet in the system's temporary folder,
 and are removed. The environment names the gateway as for tests/gateway.py.
 """
 import os

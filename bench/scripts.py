@@ -10,8 +10,8 @@ TURN = "turn 65535\n"
 
 @dataclass
 class Script:
-    """A script: its beginning, and lines that are repeated so many times, or that are made of the number of the round,
-    from 0, and are as many in each; and the life that it is run with."""
+    """A script: its beginning, and lines that are repeated that many times, or that are made of the number of the
+    round, from 0, and are as many in each; and the life that it is run with."""
     name: str
     beginning: str
     lines: str | Callable[[int], str]
@@ -33,7 +33,7 @@ class Script:
             sink.writelines(self.pieces(times))
 
     def write_first(self, path, most):
-        """Writes the first lines, at most so many, and tells how many they are."""
+        """Writes the first lines, at most that many, and returns how many they are."""
         lines = (line for piece in self.pieces(1) for line in piece.splitlines(keepends=True))
         count = 0
         with open(path, "w") as sink:
@@ -53,12 +53,12 @@ def opening(limit):
 
 
 def send(size, flow="a"):
-    """A packet of so many bytes for a flow."""
+    """A packet of that many bytes for a flow."""
     return "send %s %s\n" % (flow, "".join("%02x" % (i * 7 % 256) for i in range(size)))
 
 
 def pairs(size, count):
-    """Packets of so many bytes, each of which is written before the next one comes."""
+    """Packets of that many bytes, each of which is written before the next one comes."""
     return Script("pairs of %d bytes" % size, opening(1000), send(size) + TURN, count)
 
 
@@ -161,8 +161,8 @@ def deep_graph():
 
 
 def chain(order, backing, flows, funding_tickets):
-    """Currencies that are made in this order, each backed by the one before it, of number 0 by base, through so many
-    tickets; and so many flows, each funded by so many tickets of the last."""
+    """Currencies that are made in this order, each backed by the one before it, of number 0 by base, through that many
+    tickets; and that many flows, each funded by that many tickets of the last."""
     funding = Funding()
     for depth in order:
         funding.currency("c%d" % depth)
@@ -210,7 +210,7 @@ def graphs():
 
 
 def commands(name, count):
-    """Currencies and tickets that are made, fund, fund no longer and are removed, where all flows have a packet."""
+    """Currencies and tickets that are made, fund, cease to fund and are removed, while all flows have a packet."""
     funding = layers()
     sends = "".join(send(1, "f%d" % flow) for flow in range(FLOWS))
 
@@ -235,7 +235,7 @@ TICKET_BETWEEN = 9
 
 
 def amends(name, count):
-    """The amount of one ticket changes, where all flows have a packet: shares follow in all layers of currencies, and
+    """The amount of one ticket changes while all flows have a packet: shares follow in all layers of currencies, and
     so do the tickets of all flows."""
     sends = "".join(send(1, "f%d" % flow) for flow in range(FLOWS))
     lines = "".join("amend %d %d\n" % (TICKET_BETWEEN, 1000 + 37 * step) for step in range(20))

@@ -6,8 +6,8 @@ parts; without a word all are run. In each of ROUNDS rounds (7 unless set) the p
 are medians; machines are noisy, so the ratios of one run are what to read, which are medians of the rounds' ratios.
 Processor time is that of the server's threads while the load lasts, without its start and its audit. PACKETS is how
 many packets a run of these two has (60000), of 64 bytes three times as many; MEMORY_PACKETS those of `memory`
-(1000000). Where bin/stridelink-link has no `serve`, the plain program is measured alone. Nothing is written but a folder in
-the system's temporary folder, which is removed.
+(1000000). If bin/stridelink-link has no `serve`, the plain program is measured alone. The only folder that is written is
+in the system's temporary folder, and is removed.
 """
 import multiprocessing
 import os
@@ -34,7 +34,7 @@ SIZES = (700, 64)
 SIZES_OF_EIGHT = (1490, 700, 64)
 FLOWS = "abcdefgh"
 
-# A client sends so many records at once. Of all that were sent in a paced load, so many frames at most are not yet
+# A client sends that many records at once. Of all that were sent in a paced load, that many frames at most are not yet
 # there: fewer than a buffer holds, so none is refused.
 STEP = 64
 WINDOW = 896
@@ -86,7 +86,7 @@ class Link:
             sys.exit("the reply to '%s' is no line" % line)
 
     def pace(self, count):
-        """Sends at least so many packets, and no more at once than the flows hold: how many frames came."""
+        """Sends at least that many packets, and no more at once than the flows hold: how many frames came."""
         buffer = bytearray(1 << 20)
         sent, got, end = 0, 0, -(-count // STEP) * STEP
         while got < end * self.size:
@@ -98,7 +98,7 @@ class Link:
         return end
 
     def flood(self, count):
-        """Sends so many packets as fast as they are taken: how many frames came, and when the last did."""
+        """Sends that many packets as fast as they are taken: how many frames came, and when the last did."""
         threads = [threading.Thread(target=self.send, args=(client, step, count // len(self.clients) // STEP),
                                     daemon=True)
                    for client, step in zip(self.clients, self.steps)]

@@ -2,7 +2,7 @@
 """Measures at the far end of the uplink what share of it each tenant gets, in a table of loads, at default settings.
 
 `shares.py loads`, `shaped`, `changes`, `lone` and `spent` are the parts; without a word all are run. The program is
-bin/stridelink, or that of the variable STRIDELINK. Each row tells by how much a share was off at most, in the windows of
+bin/stridelink, or that of the variable STRIDELINK. Each row says by how much a share was off at most, in the windows of
 tests/measured.py, and which shares that window had. A share that is off by more than 0.01 ends the program with
 status 1, once all rows are printed.
 
@@ -50,7 +50,7 @@ SHAPED = (2, 20, 200)
 BURST = 16384
 NEAR, FAR = "10.213.77.1", "10.213.77.2"
 
-# A lone packet comes after at most so many seconds, and its frame is wanted within so many.
+# A lone packet comes after at most that many seconds, and its frame is wanted within that many.
 PAUSE = 0.02
 PROMPT = 30.0
 PAYLOAD = 64
@@ -79,7 +79,7 @@ def measure(load, **where):
 
 
 def in_pairs(loads, is_slow, measure):
-    """Measures loads two at a time where their far ends are slow, since these leave the machine idle."""
+    """Measures loads two at a time if their far ends are slow, since these leave the machine idle."""
     slow = [load for load in loads if is_slow(load)]
     for pair in itertools.zip_longest(slow[::2], slow[1::2]):
         tasks = [Task(measure, (load,)) for load in pair if load]
@@ -106,7 +106,7 @@ def measure_loads():
 
 @contextlib.contextmanager
 def shaped(megabits):
-    """A network namespace behind a link of so many megabits a second: the words that start a program in it."""
+    """A network namespace behind a link of that many megabits a second: the words that start a program in it."""
     name, near, far = "stridelink%d" % os.getpid(), "sln%d" % os.getpid(), "slf%d" % os.getpid()
     inside = ("ip", "netns", "exec", name)
 

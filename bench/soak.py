@@ -3,8 +3,8 @@
 
 `soak.py load` and `soak.py hostile` are the parts; without a word both are run. The program is that of `--program`, or
 of the variable PROGRAM, or bin/stridelink-link. Nothing is written but folders in the system's temporary folder, which are
-removed: of a million packets some 4 GB. The server, and then the replay of its audit, hold up to 3 GB of memory in
-either part. Where nothing moves for a minute, the program ends and tells what it waited for.
+removed: of a million packets about 4 GB. The server, and then the replay of its audit, hold up to 3 GB of memory in
+either part. If nothing moves for a minute, the program ends and prints what it waited for.
 
 *load.* PACKETS packets (1000000 unless set) come through eight ingress connections for eight flows. Their lengths are
 drawn: one in eight from 1 to 9000 bytes, the others from 1 to 1490. All the while eight clerks open a flow each, fund
@@ -31,10 +31,10 @@ no two flows keep their tickets while both have packets for long enough to be co
 *hostile.* A client sends packets, no more at once than its flow holds, and asks one control line after another, each
 when the one before is answered. Beside it another does nothing, or as fast as it can one of these: it sends records for
 a flow that does not exist, or for one whose buffer is full; it asks for reports, and reads them; it asks for lines that
-are refused. Each lasts FLOOD_SECONDS (4 unless set), or less where four million are sent sooner. What is printed are
+are refused. Each lasts FLOOD_SECONDS (4 unless set), or less if four million are sent sooner. What is printed are
 medians of ROUNDS rounds (3 unless set), in which they take turns: the first client's frames a second, its time to a
 reply, what was taken of the other one in a second, how many events of the life that used up, and how long the longest
-life would last by that. No promise of fairness is checked: this measures and tells.
+life would last by that. No promise of fairness is checked: this measures and prints.
 """
 import argparse
 import contextlib
@@ -67,8 +67,8 @@ SEED = int(os.environ.get("SEED", time.time_ns() % 1000000007))
 SECONDS = float(os.environ.get("FLOOD_SECONDS", "4"))
 ROUNDS = int(os.environ.get("ROUNDS", "3"))
 
-# So many seconds may pass without anything that moves. What a flood left in the system's buffers, which may be tens of
-# MB, takes at most so many.
+# That many seconds may pass without anything that moves. Bytes that a flood left in the system's buffers, which may
+# be tens of MB, take at most that many.
 STALL = 60
 LEFT = 600
 
@@ -83,29 +83,29 @@ TARIFFS = 4
 ADDED = HEADER[SERVED]
 IN_PLACE = 16
 
-# The part of the packets that are drawn from all lengths. The others have at most so many bytes.
+# The part of the packets that are drawn from all lengths. The others have at most that many bytes.
 LONG = 1 / 8
 MOST_USUAL = 1490
 
-# A client sends so many records at once. A clerk has so many tickets, closes its flow once in so many steps, and may
-# make so many commands before the packets come.
+# A client sends that many records at once. A clerk has that many tickets, closes its flow once in that many steps, and
+# may make that many commands before the packets come.
 STEP = 64
 TICKETS = 4
 MOST_AMOUNT = 1000
 CLOSING = 16
 AHEAD = 256
 
-# An ingress client rests behind one in four of these, for so many seconds at most, so that buffers fill and run empty.
+# An ingress client rests after one in four of these, for that many seconds at most, so that buffers fill and run empty.
 RESTING = 1 / 4
 REST = 0.05
 
-# The peer reads so many bytes between two pauses, in the mean, and a pause has so many seconds. What waits on the way
-# to it is kept short, so that the pauses hold the link up.
+# The peer reads that many bytes between two pauses, in the mean, and a pause has that many seconds. Few bytes wait on
+# the way to it, so that the pauses hold the link up.
 BETWEEN_PAUSES = 2 * MEBIBYTE
 PAUSE = (0.02, 0.08)
 RECEIVING = 1 << 16
 
-# How many packets or commands tell what one takes, the margin of the bound, and the room for a connection's buffers.
+# How many packets or commands show what one takes, the margin of the bound, and the room for a connection's buffers.
 PROBE = 20000
 MARGIN = 1 / 8
 ROOM = MEBIBYTE // 2
@@ -124,7 +124,7 @@ COUNTS = re.compile(r"^(\d+) commands, (\d+) arrivals, (\d+) turns$", re.MULTILI
 
 
 class Watch:
-    """Raises a failure where nothing has moved for too long."""
+    """Raises a failure if nothing has moved for too long."""
 
     def __init__(self, what):
         self.what = what
@@ -160,7 +160,7 @@ def finish(connection):
 
 
 def peak(server):
-    """The most memory that a server has held, in bytes; none where it has ended."""
+    """The most memory that a server has held, in bytes; none if it has ended."""
     return told_by_system(server, "status", "VmHWM:") * 1024
 
 
@@ -184,7 +184,7 @@ def wait_for_end(server, moved=lambda: None, look=lambda: None):
 
 
 class Started:
-    """A server with so many connections of either kind, and the peer of its uplink. All of it ends with the stack."""
+    """A server with that many connections of either kind, and the peer of its uplink. All of it ends with the stack."""
 
     def __init__(self, stack, program, ends, life, audit=None):
         self.folder = stack.enter_context(tempfile.TemporaryDirectory())
@@ -207,7 +207,7 @@ class Started:
             finish(connection)
 
 
-# What is kept.
+# The parts that are kept.
 
 @dataclass
 class Kept:
@@ -218,8 +218,8 @@ class Kept:
     receipt: float
 
     def bound(self, before, events, copies, copied, commands):
-        """The most that a server may hold that made so many events, of which so many packets were copied, with so many
-        bytes together, and so many were commands."""
+        """The most that a server may hold that made that many events, of which that many packets were copied, with that
+        many bytes together, and that many were commands."""
         waiting = len(FLOWS) * MOST_WAITING + 2 * (PLACES + len(FLOWS))
         held = (before + 2 * len(FLOWS) * ROOM + events * self.entry + copied + copies * self.copy
                 + 2 * commands * self.receipt + waiting * (ADDED + MOST_PAYLOAD + self.copy))
@@ -227,7 +227,7 @@ class Kept:
 
 
 class Probe:
-    """A server that is given much of one kind, once and once more, and tells what one of it takes."""
+    """A server that is given much of one kind, once and once more, and the memory that one of it takes."""
 
     def __init__(self, stack, program):
         self.started = Started(stack, program, 1, 8 * PROBE, os.devnull)
@@ -269,7 +269,7 @@ def drawn_length(draw):
 
 
 def measure_kept(program):
-    """What an entry, a copy and a receipt take."""
+    """The bytes of an entry, a copy and a receipt."""
     draw = random.Random("%d probe" % SEED)
     lengths = [max(IN_PLACE + 1, drawn_length(draw)) for _ in range(PROBE)]
     found = []
@@ -320,7 +320,7 @@ class SlowPeer(threading.Thread):
 
 
 class Clerk(threading.Thread):
-    """Asks one line after another for a flow of its own until it is told to end, and never gets far ahead of the
+    """Asks one line after another for a flow of its own until it is stopped, and never gets far ahead of the
     packets."""
 
     def __init__(self, control, name, packets):
@@ -362,7 +362,7 @@ class Clerk(threading.Thread):
         return int(self.ask("mktkt %d base" % self.draw.randint(1, MOST_AMOUNT), "ticket ").split()[1])
 
     def step(self):
-        """Opens the flow, funds it by another ticket than the last, funds it no longer, or closes it."""
+        """Opens the flow, funds it by another ticket than the last, unfunds it, or closes it."""
         if not self.is_open:
             self.ask("open %s %d %d" % (self.name, self.draw.randint(1, MOST_WAITING), self.draw.randint(1, TARIFFS)),
                      "flow ")
@@ -389,7 +389,7 @@ class Clerk(threading.Thread):
 
 
 def send_packets(connection, number, count, sent, copies, copied):
-    """Sends so many packets of drawn lengths for drawn flows, and tells how many it sent, and how many have a copy
+    """Sends that many packets of drawn lengths for drawn flows, and returns how many it sent, and how many have a copy
     outside their entries, with how many bytes together."""
     draw = random.Random("%d ingress %d" % (SEED, number))
     noise = draw.randbytes(1 << 16)
@@ -462,7 +462,7 @@ class Load:
                 clerk.ending.set()
 
     def counts(self):
-        """How many commands, arrivals and turns the server tells, which have to be those of the clients."""
+        """How many commands, arrivals and turns the server prints, which have to be those of the clients."""
         commands, arrivals, turns = map(int, COUNTS.findall(self.server.text("stderr"))[-1])
         expect_equal(arrivals, PACKETS, "arrivals")
         expect_equal(commands, sum(clerk.asked for clerk in self.clerks), "commands")
@@ -470,7 +470,7 @@ class Load:
 
 
 class Replayed:
-    """What `stridelink run` prints of an audit and a report behind it, which is read in pieces."""
+    """The output of `stridelink run` for an audit and a report after it, which is read in pieces."""
 
     def __init__(self, stack, program, life, audit):
         with open(audit, "ab") as sink:
@@ -557,8 +557,8 @@ def measure_load(program):
 
 @dataclass
 class Flood:
-    """What a hostile client sends, how many records or lines that is, on which kind of connection, and whether each is
-    an event."""
+    """The bytes of a hostile client, how many records or lines that is, on which kind of connection, and whether each
+    is an event."""
     block: bytes
     count: int
     kind: str
@@ -587,7 +587,7 @@ class Beside:
 
 def pace(connection, peer, ending, results):
     """Sends packets, and no more at once than the flow holds, until it is to end, and then reads the uplink to its end.
-    Tells how many frames came in how many seconds."""
+    Reports how many frames came in how many seconds."""
     step = record("a", b"x" * PACED) * STEP
     buffer = bytearray(1 << 20)
     sent, got, start = 0, 0, time.perf_counter()
@@ -627,7 +627,7 @@ def read_away(connection):
 
 
 def start_beside(stack, work, *words):
-    """Starts a process that tells something at its end: where it tells it."""
+    """Starts a process that reports something at its end; returns where it reports it."""
     ours, theirs = FORK.Pipe(duplex=False)
     process = FORK.Process(target=work, args=(*words, theirs), daemon=True)
     process.start()
@@ -638,7 +638,7 @@ def start_beside(stack, work, *words):
 
 
 def told(results, what):
-    """What a process told at its end."""
+    """The report of a process at its end."""
     try:
         expect(results.poll(STALL), "nothing moves any more: " + what)
         return results.recv()
@@ -683,7 +683,7 @@ def beside(program, flood):
 
 
 def flood_events(text):
-    """How many events the second connection of either kind has made, as a server tells."""
+    """How many events the second connection of either kind has made, as a server prints."""
     found = re.findall(r"^(?:control|ingress) 2: ended, .*, (\d+) (?:commands|packets)$", text, re.MULTILINE)
     expect_equal(len(found), 2, "how many connections have ended")
     return sum(map(int, found))

@@ -20,6 +20,12 @@ the median and at the 95th percentile. Shares have to be within 0.002 and 0.01, 
 echo may take 12 ms longer if the uplink has a rate. A bound that does not hold ends the program with status 1, once all
 rows are printed. Rows of htb and of fifo are not judged. A machine without network namespaces or TUN devices is
 skipped. All that is made ends with the program, however it ends.
+
+The host of a virtual machine may take its processors for tenths of a second, and then gateways, link and loads stand
+still. What waits meanwhile drains by the twentieth of the link that a rate leaves, so a pause of 10 ms is felt for 200.
+The last cell has the part of the processors' time that was taken. A case with more than 0.01 of it is measured again,
+whatever it found, and at most TIMES times (3). If all had more, the bound of the last one does not hold.
+`chrt --rr 20` in front has all programs of the bench run ahead of the others of a busy machine.
 """
 import os
 import sys
@@ -27,16 +33,20 @@ import time
 from dataclasses import dataclass, field
 
 from bench import print_row
-from tunneling import (BUSY, IDLE, TICKETS, WIRE, Counters, Failure, Flood, Pings, Uplink, Wire, alone, build, expect,
-                       hosts_with, part_of, start_classes, start_gateways, start_pumps, wait_for)
+from tunneling import (BUSY, IDLE, TICKETS, WIRE, Counters, Failure, Flood, Pings, Stolen, Uplink, Wire, alone, build,
+                       expect, hosts_with, part_of, start_classes, start_gateways, start_pumps, wait_for)
 
 SECONDS = float(os.environ.get("SECONDS", "20"))
 LINKS = [float(rate) for rate in os.environ.get("LINKS", "20 200").split()]
+TIMES = int(os.environ.get("TIMES", "3"))
 UPLINKS = (Uplink("TCP", False), Uplink("TCP, rate of 92 %", False, 0.92), Uplink("UDP, rate of 95 %", True, 0.95))
 CLASSES = Uplink("htb, 95 %", False, 0.95)
 
 # The bounds: of the errors of shares, of the part of the link that is used, and of the wait of an idle tenant in ms.
 MOST_IP, MOST_GOODPUT, LEAST_USED, MOST_WAIT = 0.002, 0.01, 0.93, 12
+
+# The bound of the part of the processors' time that the host of this machine may take.
+MOST_STOLEN = 0.01
 
 # How long streams take to grow, what is left of one that ends is on its way, and one that is back has to get its share.
 WARM, DRAINED, BACK = 3, 1, 1
@@ -49,7 +59,7 @@ LAST = "d"
 JUDGED = ("gateway", "pump")
 
 HEADINGS = ("subject", "link", "uplink", "case", "error of IP", "error of goodput", "of the link", "wait, ms, median",
-            "95 of 100")
+            "95 of 100", "stolen")
 
 FAILED = []
 
@@ -176,7 +186,7 @@ def start_subject(subject, hosts, stack, uplink, programs):
 
 
 def bounded(text, holds, bound):
-    """What is printed of a value: with its bound if it does not hold."""
+    """The text of a value: with its bound if it does not hold."""
     return text if holds else f"{text} (bound {bound:g})"
 
 
@@ -193,19 +203,29 @@ def row(measured, uplink, is_judged):
             bounded(texts[4], not uplink.part or late <= MOST_WAIT, MOST_WAIT)]
 
 
-def measure(subject, wire, uplink, case, programs):
-    """Prints the row of a case."""
-    name = [subject, f"{wire.megabits:g} Mbit/s", uplink.name, case.name]
+def measured_cells(subject, wire, uplink, case, programs):
+    """The cells of a row that are measured, or why there are none."""
     try:
         with hosts_with(wire, programs["link"]) as (hosts, stack):
             start_subject(subject, hosts, stack, uplink, programs)
             measured = Measured(hosts, stack, case)
             measured.run()
-            cells = row(measured, uplink, subject in JUDGED)
+            return row(measured, uplink, subject in JUDGED)
     except (Failure, OSError) as fault:
-        cells = [f"{fault} (bound)"]
-    print_row([*name, *cells])
-    if any("(bound" in cell for cell in cells):
+        return [f"{fault} (bound)"]
+
+
+def measure(subject, wire, uplink, case, programs):
+    """Prints the row of a case, and another one if too much of the machine's time was stolen."""
+    name = [subject, f"{wire.megabits:g} Mbit/s", uplink.name, case.name]
+    for _ in range(TIMES):
+        stolen = Stolen()
+        cells = measured_cells(subject, wire, uplink, case, programs)
+        part = stolen.part()
+        print_row([*name, *cells, bounded(f"{part:.4f}", part <= MOST_STOLEN, MOST_STOLEN)])
+        if part <= MOST_STOLEN:
+            break
+    if part > MOST_STOLEN or any("(bound" in cell for cell in cells):
         FAILED.append(", ".join(name))
 
 

@@ -34,7 +34,12 @@ IDLE = "e"
 
 # The hosts have these addresses on the link, and 10.1.N.1 and 10.1.N.2 as tenant N.
 LINK = {"near": "10.9.0.1", "far": "10.9.0.2"}
+NETWORK = "10.9.0.0/24"
 PORT = 7003
+
+# The congestion control of TCP, whatever that of the machine is. BBR all but stops for 200 ms of each 10 s, to see how
+# short a round trip can be.
+CONGESTION = "cubic"
 
 # A device counts bytes without a sender's headers of the link, which TUN devices do not have.
 WIRE = "wire"
@@ -208,6 +213,7 @@ class Hosts:
             do("ip", "link", "set", "dev", name, "netns", host.name, "name", WIRE)
             host.add(WIRE, LINK[host.name] + "/24")
             host.do("ip", "link", "set", "dev", WIRE, "txqueuelen", str(WIRE_QUEUE), "up")
+            host.do("ip", "route", "replace", NETWORK, "dev", WIRE, "src", LINK[host.name], "congctl", CONGESTION)
 
     def start_link(self, stack, names, program):
         """Starts the program of the link between two devices."""
@@ -315,7 +321,7 @@ class Flood:
         self.server = hosts.far.start("iperf3", "-s", "-1", "-B", address("far", tenant), "-i", "0.25", "-f", "k",
                                       "--forceflush")
         wait_for(lambda: any("listening" in line for _, line in list(self.server.lines)), "iperf3")
-        how = ("-u", "-b", str(int(datagrams))) if datagrams else ("-P", str(streams), "-C", "cubic")
+        how = ("-u", "-b", str(int(datagrams))) if datagrams else ("-P", str(streams), "-C", CONGESTION)
         self.client = hosts.near.start("iperf3", "-c", address("far", tenant), "-B", address("near", tenant), "-t",
                                        "3600", *how)
 
@@ -388,7 +394,7 @@ def part_of(times, part):
 
 
 class Counters(threading.Thread):
-    """What the devices of a host have received, again and again."""
+    """The bytes that the devices of a host have received, again and again."""
 
     def __init__(self, stack, host):
         super().__init__(daemon=True)
@@ -414,6 +420,24 @@ class Counters(threading.Thread):
         return last[0] - first[0], {device: count - first[1].get(device, 0) for device, count in last[1].items()}
 
 
+class Stolen:
+    """The time of this machine's processors that its host has given to others, if it is a virtual machine."""
+
+    def __init__(self):
+        self.start = self.read()
+
+    def read(self):
+        """The stolen time until now, and all time, in a unit of the system's."""
+        with open("/proc/stat", encoding="ascii") as file:
+            times = list(map(int, file.readline().split()[1:9]))
+        return times[-1], sum(times)
+
+    def part(self):
+        """The part that was stolen since the start."""
+        stolen, every = (now - before for now, before in zip(self.read(), self.start))
+        return stolen / max(1, every)
+
+
 @contextlib.contextmanager
 def hosts_with(wire, link=None):
     """Two hosts with a link between them, and what ends with them."""
@@ -421,6 +445,6 @@ def hosts_with(wire, link=None):
         yield Hosts(stack, wire, link), stack
 
 
-__all__ = ["BUSY", "Counters", "Failure", "Flood", "IDLE", "Pings", "TICKETS", "Uplink", "WIRE", "Wire",
+__all__ = ["BUSY", "Counters", "Failure", "Flood", "IDLE", "Pings", "Stolen", "TICKETS", "Uplink", "WIRE", "Wire",
            "alone", "build", "expect", "hosts_with", "part_of", "processor_seconds", "start_classes", "start_gateways",
            "start_pumps", "wait_for"]

@@ -32,7 +32,7 @@ SENT_AHEAD = 4096
 
 AMOUNTS = {"acme": 400, "bolt": 300, "cora": 200, "dune": 100}
 
-# What happens, and when.
+# The events of the demo, and their times.
 PAUSES, RETURNS, AMENDED = 4.5, 8.0, 11.0
 PAUSING, CHANGING, NEW_AMOUNT = "bolt", "dune", 600
 
@@ -77,7 +77,7 @@ class Tenants:
 
 
 class Table:
-    """What is shown: on a terminal one table that changes, otherwise one a second."""
+    """The display: on a terminal one table that changes, otherwise one a second."""
 
     def __init__(self):
         self.is_terminal = sys.stdout.isatty()
@@ -152,7 +152,7 @@ def print_bill(found, far):
 
 
 def command(file):
-    """What runs the gateway, and where."""
+    """The program that runs the gateway, and its folder."""
     if os.path.exists(GATEWAY):
         return [GATEWAY, *WORDS, file], TOP
     print("building the gateway, with nothing proved: a minute or two", flush=True)

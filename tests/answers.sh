@@ -28,7 +28,7 @@ ask() {
     hears "$2"
 }
 
-# Asks for a packet of two bytes, whose frame has so many.
+# Asks for a packet of two bytes, whose frame has that many.
 ask_for_packet() {
     ask 'open a 4 1' 'flow 1'
     ask 'mktkt 10 base' 'ticket 1'

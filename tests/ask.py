@@ -28,7 +28,7 @@ def want(what, got, wanted):
 
 
 def reply_to(line):
-    """What a gateway answers: a report, a refusal, or the line itself."""
+    """The answer of a gateway: a report, a refusal, or the line itself."""
     if line == b"report":
         return REPORT
     return b"no 7 NoFlow\n" if line.startswith(b"hold") else b"got " + line + b"\n"
@@ -162,7 +162,7 @@ def long_line(_folder):
 
 
 def early(_folder):
-    """A connection that ends early is told, and the whole lines before its end are printed."""
+    """The early end of a connection is reported, and the whole lines before it are printed."""
     for reply, printed in ((b"", b""), (b"ok\n", b"ok\n"), (b"ok\nclock 0\n", b"ok\nclock 0\n"), (b"ok\nhal", b"ok\n")):
         def serve(connection, reply=reply):
             came = b""
@@ -176,12 +176,12 @@ def early(_folder):
 
 
 def reason(number):
-    """What the system says of a fault."""
+    """The system's text for a fault."""
     return "%s (os error %d)" % (os.strerror(number), number)
 
 
 def nobody(folder):
-    """Where nobody listens there is no connection."""
+    """If nobody listens there is no connection."""
     with socket.socket() as listener:
         listener.bind(("127.0.0.1", 0))
         address = "127.0.0.1:%d" % listener.getsockname()[1]

@@ -52,7 +52,7 @@ ROW = "%-16s %12s %16s %16s %20s\n"
 LEAST_REFUSED = 500
 LEAST_BILLED = 300
 
-# How many altered texts are given together, and which of them are given alone too: one of so many.
+# How many altered texts are given together, and which of them are given alone too: one of that many.
 TOGETHER = 50
 ALONE = 50
 
@@ -65,7 +65,7 @@ class Wrong(Exception):
 
 @dataclass
 class Tally:
-    """What a tenant sent."""
+    """The traffic of a tenant."""
     packets: int = 0
     bytes: int = 0
     units: int = 0
@@ -151,7 +151,7 @@ def read_book(text):
 
 
 def bill_of(books):
-    """What each tenant sent by these books, in the order in which they first appear."""
+    """The traffic of each tenant in these books, in the order in which they first appear."""
     tenants = {}
     for flows in books:
         for name, tally in flows:
@@ -207,7 +207,7 @@ def run_bill(*words, output=subprocess.PIPE):
 
 
 def wanted_of(paths, form):
-    """What the model wants of these files: the status, the text of the bill, and that on standard error."""
+    """The model's result for these files: the status, the text of the bill, and that on standard error."""
     said, books, status = "", [], 0
     for path in paths:
         with open(path, "rb") as file:

@@ -183,12 +183,12 @@ def checked(rows, path, number):
 
 
 def said_of(path, wrong):
-    """What is said of a path: with the number of a line, if there is one."""
+    """The line on a path: with the number of a line, if there is one."""
     return "%s%s: %s\n" % (path, "".join(":%d" % number for number in wrong.args[:-1]), wrong.args[-1])
 
 
 def wanted_of(rows_path, paths, form):
-    """What the model wants: the status, the text of the bill, and that on standard error."""
+    """The model's result: the status, the text of the bill, and that on standard error."""
     with open(rows_path, encoding="latin-1", newline="") as file:
         text = file.read()
     try:
@@ -380,7 +380,7 @@ def missing(folder):
 
 
 def altered_texts(folder):
-    """A text that is still a run and not that of its row, and one that is no run any more."""
+    """A text that is still a run and not that of its row, and one that is not a run."""
     books = usual(folder, "texts")
     rows = books.save()
     changes = ((books.books[1], b"send a 5a5a5a\n", b"send a 5a5a5b\n", FIGURES[0][1]),
@@ -572,7 +572,7 @@ def write_plan(folder, text):
 
 
 def wanted_under(tariffs, paths, form):
-    """What the model wants of books under tariffs."""
+    """The model's result for books under tariffs."""
     said, books, status = "", [], 0
     for path in paths:
         with open(path, "rb") as file:

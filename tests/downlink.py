@@ -319,7 +319,7 @@ def frames_in_pieces(run):
     far.end()
 
 
-# What is wrong in a header, at which byte of it, and what the line calls it.
+# The fault of a header, at which byte of it, and what the line calls it.
 BAD_FIELDS = [
     (0, b"\x00", "its mark"),
     (1, b"\x01", "its version"),

@@ -1,5 +1,5 @@
 #!/usr/bin/env bash
-# Runs the built program by its words: a script of a file or of standard input, the life where none is given, runs that
+# Runs the built program by its words: a script of a file or of standard input, the life if none is given, runs that
 # end at the first refused line, and the texts of help.
 set -u
 cd "$(dirname "$0")/.." || exit 1
@@ -43,7 +43,7 @@ wants 1 '' $'stridelink: cannot read the script\n' 'stridelink run --strict "$fo
 wants 1 '' $'stridelink: cannot read the script\n' 'stridelink run "$folder"'
 wants 1 '' $'stridelink: cannot read the script\n' 'stridelink run --strict "$folder"'
 
-# Where no life is given, it is 65536 events.
+# If no life is given, it is 65536 events.
 spent=$(yes 'no 5 NoCurrency' | head -n 65536)$'\nno 2 Spent\nout -\n'
 wants 0 "$spent" '' "yes 'rmcur x' | head -n 65537 | stridelink run"
 wants 0 "$spent" '' "yes 'rmcur x' | head -n 65537 | stridelink run --life 65536"
@@ -85,7 +85,7 @@ wants 1 $'idle\nno 3 Syntax\n' $'stridelink: line 2, \'walk\': no 3 Syntax\n' \
     'timeout 10 bin/stridelink run --strict < "$folder/lines"'
 exec {lines}>&-
 
-# -h is short, and --help tells the language; its example is one.
+# -h is short, and --help has the language; its example is one.
 for words in '' run; do
     [[ $(stridelink $words -h | wc -l) -lt 20 && $(stridelink $words -h) != *Refusals* ]] || {
         echo "'$words -h' is long" >&2

@@ -24,7 +24,7 @@ TARIFFS = ((1, 0), (48, 16), (1024, 0), (2048, 1024))
 MOST = 1 << 18
 INTERVAL = 0.05
 
-# A far end with a rate reads what came free in one pause, and at most what came free in so many seconds.
+# A far end with a rate reads what came free in one pause, and at most what came free in that many seconds.
 PAUSE = 0.004
 SAVED = 0.05
 

@@ -1,6 +1,6 @@
 #!/usr/bin/env bash
-# Runs the built program where it cannot do its work: wrong words, input that cannot be read, output that is full or
-# closed, too little memory. The status stands also where standard error takes no text.
+# Runs the built program if it cannot do its work: wrong words, input that cannot be read, output that is full or
+# closed, too little memory. The status stands even if standard error takes no text.
 set -u
 cd "$(dirname "$0")/.." || exit 1
 said=$(mktemp) || exit 1

@@ -53,7 +53,7 @@ SEED = 1994
 SCRIPTS = 2000
 TEXTS = 20
 STREAMS = 360
-# Servers whose uplink is interrupted, in how many rounds, with so many packets that wait, and servers in all.
+# Servers whose uplink is interrupted, in how many rounds, with that many packets that wait, and servers in all.
 INTERRUPTED = 30
 ROUNDS = 15
 PACKETS = 60
@@ -117,7 +117,7 @@ def lines_of(text):
 
 
 def value_of(word, wanted):
-    """What a word stands for where another is wanted; None where it does not fit."""
+    """The meaning of a word where another is wanted; None if it does not fit."""
     if wanted not in WORDS:
         return word if word == wanted else None
     value = VALUES[wanted](word) if WORDS[wanted].fullmatch(word) else None
@@ -125,7 +125,7 @@ def value_of(word, wanted):
 
 
 def why_misspelled(line):
-    """What is wrong with a line that is not one of the language."""
+    """The fault of a line that is not one of the language."""
     words = line.split(" ")
     fitting = [spelling for spelling in SPELLINGS if spelling[0] == words[0]]
     if len(line) > LONGEST_LINE:
@@ -143,7 +143,7 @@ def why_misspelled(line):
 
 
 def words_of(line):
-    """The spelling of a line, and the values of its words in capitals; None where it has none."""
+    """The spelling of a line, and the values of its words in capitals; None if it has none."""
     words = line.split(" ")
     for spelling in SPELLINGS:
         if len(line) <= LONGEST_LINE and words[0] == spelling[0] and len(words) == len(spelling):
@@ -184,7 +184,7 @@ class Flow:
 
 
 class Worths:
-    """What is active and what it is worth, from all tickets and the numbers of the active flows."""
+    """The active flows and currencies and their worths, from all tickets and the numbers of the active flows."""
 
     def __init__(self, tickets, active_flows):
         self.active_flows = active_flows
@@ -275,12 +275,12 @@ class Queue:
         self.clock += units
 
     def next(self):
-        """The next flow; None where none competes."""
+        """The next flow; None if none competes."""
         return min(self.competing(), key=lambda flow: (flow.place, flow.number), default=None)
 
 
 class Link:
-    """A link with its writer, which accepts all that it is offered. The first line of a script may tell another
+    """A link with its writer, which accepts all that it is offered. The first line of a script may choose another
     version."""
 
     def __init__(self, life, version=1):
@@ -302,7 +302,7 @@ class Link:
         self.met = Counter()
 
     def answer(self, line):
-        """The answer to a line of a script, which is counted as met; None to a first line that tells a version."""
+        """The answer to a line of a script, which is counted as met; None to a first line that chooses a version."""
         was_in_part, was_sent = bool(self.part), self.sent
         reply = self.answer_to(line)
         spelled = words_of(line)
@@ -598,7 +598,7 @@ def all_met():
 
 
 def met_by(spelling, line, reply, was_in_part, was_sent):
-    """What of the language a line and its answer meet."""
+    """The parts of the language that a line and its answer meet."""
     if spelling is None or reply == refused("Syntax"):
         return ["Syntax: %s" % why_misspelled(line)]
     if reply is None:
@@ -617,7 +617,7 @@ def met_by(spelling, line, reply, was_in_part, was_sent):
 
 
 def printout(text, life):
-    """What a script is answered, and the link that it leaves."""
+    """The answers to a script, and the link that it leaves."""
     link = Link(life)
     replies = [link.answer(line) for line in lines_of(text)]
     return "".join(reply + "\n" for reply in replies if reply is not None) + link.out_line(), link
@@ -906,7 +906,7 @@ class Drawer:
             self.give("send %s %s" % (name, self.some_bytes(size)))
 
     def turn(self):
-        """Some turns. Where nothing is to be sent, flows, tickets and packets for them come first."""
+        """Some turns. If nothing is to be sent, flows, tickets and packets for them come first."""
         for prepare in (self.open, self.fund_flow, self.send, self.send):
             if not self.link.part and not self.link.queue.next() and self.happens(0.8):
                 prepare()
@@ -938,7 +938,7 @@ class Drawer:
         getattr(self, self.random.choice(KINDS[:KINDS.index("send")]))()
         self.doubt = usual
 
-    # What scripts begin with, and end with.
+    # The lines that scripts begin with, and end with.
 
     def ticket_for(self, denomination, holder):
         """A ticket that funds a holder."""
@@ -1164,14 +1164,14 @@ def give_pieces(case, connection, data):
 
 
 def told_at_end(server):
-    """The lines of --verbose that tell what came of a run, the fault, and the status."""
+    """The lines of --verbose on the outcome of a run, the fault, and the status."""
     status = server.wait()
     wanted = r"^(?:control 1: ended|ingress 1: ended|\d+ commands|stridelink:).*$"
     return sorted(re.findall(wanted, server.text("stderr"), re.MULTILINE)) + ["status %d" % status]
 
 
 def ends(link, *more):
-    """What is told of a run that left this link, and more lines."""
+    """The lines on a run that left this link, and more lines."""
     arrivals = sum(line.startswith("send ") for line, _ in link.events)
     turns = sum(line.startswith("turn ") for line, _ in link.events)
     commands = len(link.events) - arrivals - turns
@@ -1325,7 +1325,7 @@ def uplink_case(case):
 
 
 def torn_after(peer, size):
-    """Reads so many bytes, and resets the connection."""
+    """Reads that many bytes, and resets the connection."""
     while len(peer.got) < size and peer.read(size - len(peer.got)):
         pass
     reset(peer.connection)
@@ -1342,7 +1342,7 @@ CASES = (("script", script_case, SCRIPTS), ("uplink", uplink_case, UPLINK_CASES)
 
 
 def tell(case, fault):
-    """Tells of a case that differs, keeps what it was given and both answers, and ends the program."""
+    """Reports a case that differs, keeps what it was given and both answers, and ends the program."""
     kept = {"input": case.given}
     print("%s: %s: %s" % (case.title, type(fault).__name__, fault))
     print("again: %s" % case.again)

@@ -25,8 +25,9 @@ sys.dont_write_bytecode = True
 
 import measured
 import paced
-from gatewaying import (GATEWAY, HEADER, MOST_CONNECTIONS, MOST_CONTROLS, OUTBOX, SERVED, WORDS, Play, Tenant,
-                        address_of, connect, frame_bytes, free_port, packet, records, run_gateway, run_program)
+from gatewaying import (COLUMNS, GATEWAY, HEADER, MOST_CONNECTIONS, MOST_CONTROLS, OUTBOX, SERVED, TARIFFS, WORDS,
+                        Play, Tenant, address_of, connect, frame_bytes, free_port, packet, records, run_gateway,
+                        run_program)
 from measured import WINDOW, Flood, check_windows
 from serving import (LOOPBACK, PATIENCE, Failure, ends_by_itself, expect, expect_equal, record, reset, try_cases,
                      wait_for)
@@ -46,6 +47,10 @@ NOTHING_SENT = 2
 # Within how many seconds control replies while the far end reads nothing, and by how much memory may grow meanwhile.
 PROMPT = 0.1
 MOST_GROWTH = 1 << 20
+
+# How many rows books.csv has after years, and after how many rotations memory is compared.
+MANY_ROWS = 20_000
+FEW_ROTATIONS = 5
 
 # The longest frame. A turn is made only if the outbox has room for it.
 LONGEST_FRAME = 9017
@@ -81,7 +86,7 @@ NOBODY = 65534
 # ---- The file
 
 
-# What is changed in a good file, and the fault that it has then, after the name of the file.
+# Changes of a good file, and the fault that it has then, after the name of the file.
 FAULTS = [
     ("[books]", "[books", ":3: "),
     ('connect = "', 'connect = "udp:', ": [uplink]: rate: missing"),
@@ -260,7 +265,7 @@ def seconds_of(text):
 
 def tenant_status(name, flow, held=False, grants=(), waiting=0, limit=256, taken=(0, 0), sent=(0, 0), amount=0,
                   connections=0):
-    """What `status` says of a tenant that does not compete."""
+    """The entry of a tenant that does not compete in `status`."""
     return {"name": name, "flow": flow, "held": held, "tickets": 0,
             "grants": [{"amount": count, "of": of} for count, of in grants], "waiting": waiting, "limit": limit,
             "taken_packets": taken[0], "taken_bytes": taken[1], "sent_packets": sent[0], "sent_bytes": sent[1],
@@ -493,7 +498,7 @@ def reloads_again(gateway, gone):
                  [("a", 1, False), ("b", 2, False), ("c", 3, False), ("d", 4, False)], "the tenants")
 
 
-# What is done to a gateway with the tenants a, b and d, and the currency x, and how the reply to `reload` goes on. The
+# The calls on a gateway with the tenants a, b and d, and the currency x, and how the reply to `reload` goes on. The
 # name c had the number 3.
 def no_reloads(gateway):
     busy = socket.create_server((LOOPBACK, 0))
@@ -645,6 +650,32 @@ def whole(run):
     gateway.end()
     expect_equal(gateway.books(), ["000001.audit", "000002.audit"], "books")
     expect_equal(gateway.counted(), {"a": (100, far.bytes[1])}, "the bill")
+
+
+def many_rows(run):
+    """Memory does not grow with the number of books: over the rows of years a gateway holds at most MOST_GROWTH more
+    than over none, at its start and after rotations."""
+    few, many = (memory_over_rows(run, count) for count in (0, MANY_ROWS))
+    for less, more, when in zip(few, many, ("at the start", "after rotations")):
+        expect(more - less <= MOST_GROWTH, f"{when} a gateway holds {less} bytes, and {more} over {MANY_ROWS} rows")
+
+
+def memory_over_rows(run, count):
+    """How much memory a gateway holds at its start, and after rotations, over that many rows of closed books."""
+    gateway = run.prepared(run.far_end(), {"a": 1})
+    rows = [f"{number},lengths,2026-01-01T00:00:00Z,2026-01-01T01:00:00Z,period,{TARIFFS},131072,65536,40000000,"
+            f"50000000,50000000,{'a' * 64}" for number in range(1, count + 1)]
+    with open(os.path.join(gateway.folder, "books.csv"), "w", encoding="ascii") as file:
+        file.write("".join(line + "\n" for line in [COLUMNS, *rows]))
+    gateway.start()
+    held = [gateway.resident()]
+    for number in range(count + 1, count + 1 + FEW_ROTATIONS):
+        gateway.control.expect("rotate", f"book {number + 1}")
+        wait_for(lambda: gateway.closed_books() >= number, "the row of a book")
+    held.append(gateway.resident())
+    gateway.control.expect("end", "ok")
+    gateway.wait()
+    return held
 
 
 def rotations_without_a_pause(run):
@@ -821,7 +852,7 @@ def far_end_does_not_answer(run):
 
 
 def far_end_writes(run):
-    """What the far end writes is read and thrown away, and frames go on."""
+    """Bytes that the far end writes are read and thrown away, and frames go on."""
     far = run.far_end()
     gateway = run.gateway(far, {"a": 1})
     gateway.send("a", range(10))
@@ -1322,10 +1353,11 @@ def slow_ones(run):
 
 CASES = (checks, addresses_in_use, second_gateway, folder_without_leave, orders, status, status_under_load,
          too_many_connections, too_many_controls, replies_not_read, asked, reloads, reload_refused,
-         reload_under_load, rotations, lives, whole, rotations_without_a_pause, shares, rate, one_against_eight,
-         far_end_away, far_end_writes, far_end_reads_nothing, wrong_records, slow_bytes, sizes, hung_up, resets,
-         stopped_and_continued, unix_sockets, unix_modes_reloaded, until_eof, grace_is_over, held_at_the_end,
-         end_is_sent, killed, killed_between_books, bad_books, disk_fills, disk_fails_at_the_end, slow_ones)
+         reload_under_load, rotations, lives, whole, many_rows, rotations_without_a_pause, shares, rate,
+         one_against_eight, far_end_away, far_end_writes, far_end_reads_nothing, wrong_records, slow_bytes, sizes,
+         hung_up, resets, stopped_and_continued, unix_sockets, unix_modes_reloaded, until_eof, grace_is_over,
+         held_at_the_end, end_is_sent, killed, killed_between_books, bad_books, disk_fills, disk_fails_at_the_end,
+         slow_ones)
 
 
 if __name__ == "__main__":

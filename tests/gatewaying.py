@@ -1,5 +1,5 @@
-"""What plays a gateway over real sockets: its file and its process, clients of its tenants, control connections, far
-ends, and the check of its books. The cases of gateway.py use it, and so do the demo and the benches of bench/.
+"""Helpers that play a gateway over real sockets: its file and its process, clients of its tenants, control connections,
+far ends, and the check of its books. The cases of gateway.py use it, and so do the demo and the benches of bench/.
 
 The environment names two programs: GATEWAY, the gateway (bin/stridelink-gateway), and STRIDELINK, which bills books
 (bin/stridelink). GATEWAY_WORDS are the gateway's first words (gateway).
@@ -415,7 +415,7 @@ class Gateway:
             while True:
                 connection.sendall(piece)
 
-    # What it says.
+    # Its text.
 
     def said(self):
         with open(self.errors, encoding="utf-8", errors="replace") as errors:
@@ -433,7 +433,7 @@ class Gateway:
         return [message for message in found if what in (None, message.what)]
 
     def status(self):
-        """What it replies to `status`."""
+        """Its reply to `status`."""
         reply = self.control.ask("status")
         try:
             return json.loads(reply)
@@ -441,7 +441,7 @@ class Gateway:
             raise Failure(f"the reply to status is no JSON: {shortened(reply)}") from None
 
     def tenant(self, name):
-        """What `status` says of a tenant."""
+        """The entry of a tenant in `status`."""
         return next(tenant for tenant in self.status()["tenants"] if tenant["name"] == name)
 
     def processor_seconds(self):
@@ -552,7 +552,7 @@ def resident(process):
 
 
 class Play(Run):
-    """What a case may use. All of it ends with the case, and no far end may have met bytes that are no frames."""
+    """The tools of a case. All of it ends with the case, and no far end may have met bytes that are no frames."""
 
     def __init__(self):
         super().__init__()

@@ -19,23 +19,23 @@ import sys
 
 sys.dont_write_bytecode = True
 
-from serving import (END, FUNDED, LINK, LOOPBACK, ONE_PACKET, PATIENCE, Failure, address_space, check, connected,
-                     expect, expect_equal, frame, is_blocked, listeners, lowest_free, one_packet, packets,
-                     packets_until_torn, records, reset, total, try_cases, wait_for)
+from serving import (END, FUNDED, LINK, LOOPBACK, LOST_UPLINK, NO_DESCRIPTOR, ONE_PACKET, PATIENCE, Failure,
+                     address_space, check, connected, expect, expect_equal, frame, is_blocked, listeners, lowest_free,
+                     one_packet, packets, packets_until_torn, records, reset, total, try_cases, wait_for)
 
 # Seconds for a case, and for all of them, and for a server that ends before anything comes.
 LIMIT = 120
 LIMIT_OF_ALL = 600
 QUICK = 30
 
-# Where a server listens whose ports are found without what it tells.
+# A server that listens at ports that are found without its messages.
 ELSEWHERE = {"ingress": "127.0.0.2:0", "control": "127.0.0.3:0"}
 
 # A shell that has mounts of its own, and how many bytes a disk or a file has room for.
 OWN_MOUNTS = ["unshare", "--map-root-user", "--mount", "sh", "-c"]
 ROOM = 16384
 
-# Lines that take memory, each with its number, and what is answered where there is none.
+# Lines that take memory, each with its number, and what is answered if there is none.
 OPENED = [FUNDED[0] % 1024, *FUNDED[1:]]
 OPENING = "open f%d 1024 1"
 SENDING = "send a %02980d"
@@ -61,7 +61,7 @@ def script_is_reset(run):
 
 
 def expect_fault(process, fault):
-    """Wants that the program ends with this fault; what it had printed till then and nobody has read."""
+    """Wants that the program ends with this fault; returns the unread part of its output."""
     status = process.wait(PATIENCE)
     more = b"" if process.stdout.closed else process.stdout.read()
     expect_equal((status, process.stderr.read()), (1, b"stridelink: %s\n" % fault.encode()), "the end of a script")
@@ -69,7 +69,7 @@ def expect_fault(process, fault):
 
 
 def script_reader_goes(run):
-    """Whoever reads the answers to a script goes in the middle of them."""
+    """A reader of the answers to a script goes in the middle of them."""
     for words in (["run"], ["run", "--strict"]):
         process = run.process(words, stdin=subprocess.PIPE)
         asking = run.thread(give, process.stdin, b"torn\n" * 200000)
@@ -89,7 +89,7 @@ def give(sink, data):
 
 
 def going(many, leave):
-    """A peer that reads so many bytes and then leaves."""
+    """A peer that reads that many bytes and then leaves."""
     def go(peer):
         while len(peer.got) < many:
             expect(peer.read(many - len(peer.got)), "the uplink ends")
@@ -128,7 +128,7 @@ def peer_goes_in_a_write(run):
         peer.go_on.set()
         control.ask_wanted(["mkcur x"], ["ok"])
         control.close()
-        server.ends(1, "the uplink failed")
+        server.ends(1, LOST_UPLINK)
         check(server, peer, [("whole", some)], torn=True)
 
 
@@ -159,7 +159,7 @@ def peer_goes_unseen(run):
 
 
 def clients_reset_before_they_are_accepted(run):
-    """The way in which a connection ends is no fault, also where it ended before it was accepted."""
+    """The way in which a connection ends is no fault, even if it ended before it was accepted."""
     peer = run.peer()
     server = run.server(peer, workers=2, clerks=2)
     sent = [packets("a", number, 5, 100) for number in (0, 1)]
@@ -224,7 +224,7 @@ def no_descriptor_to_begin(run):
     faults = [text + ": Too many open files (os error 24)" for text in (
         "cannot listen on " + ELSEWHERE["ingress"], "cannot listen on " + ELSEWHERE["control"],
         "cannot connect to " + peer.address)]
-    faults += ["cannot accept a connection"] * 2
+    faults += [NO_DESCRIPTOR] * 2
     for limit, fault in enumerate(faults, 4):
         server = run.start(peer.address, before=limited(resource.RLIMIT_NOFILE, limit), **ELSEWHERE)
         server.ends(1, fault)
@@ -248,7 +248,7 @@ def no_descriptor_for_an_accept(run):
             for number, control in enumerate(controls):
                 control.send(b"mkcur x%d\n" % number)
             server.process.send_signal(signal.SIGCONT)
-        server.ends(1, "cannot accept a connection", seconds=END)
+        server.ends(1, NO_DESCRIPTOR, seconds=END)
         for control in controls:
             expect_equal(control.close(), b"ok\n", "the replies")
         if stays:
@@ -303,7 +303,7 @@ class Script:
         self.process = run.process(["run", *words], stdin=subprocess.PIPE)
 
     def ask(self, line):
-        """The answer to a line; an empty one where the program has ended."""
+        """The answer to a line; an empty one if the program has ended."""
         self.process.stdin.write(line.encode() + b"\n")
         self.process.stdin.flush()
         return self.process.stdout.readline().decode().rstrip("\n")
@@ -378,7 +378,7 @@ def small_files(run):
 
 
 def small_disk(run):
-    """The words of a server that cannot write its audit, since its disk is small; none where no disk can be mounted."""
+    """The words of a server that cannot write its audit, since its disk is small; none if no disk can be mounted."""
     disk, program = run.folder(), os.path.join(run.folder(), "program")
     mount = "mount -t tmpfs -o size=%d none %s" % (ROOM, disk)
     if subprocess.run([*OWN_MOUNTS, mount], stderr=subprocess.DEVNULL, check=False).returncode != 0:
@@ -401,7 +401,7 @@ def expect_no_audit(server, peer, count, size, why):
 
 def audit_cannot_take_its_name(run):
     """The folder of the audit has gone since, or a folder has come to its place. The audit that was written stays in
-    its new file, if that is somewhere, and this is told."""
+    its new file, if that is somewhere, and this is reported."""
     for change, left, why in (
             (lambda folder: os.rename(folder, folder + " away"), "folder away", "entity not found"),
             (shutil.rmtree, None, "entity not found"),
@@ -421,7 +421,7 @@ def audit_cannot_take_its_name(run):
 
 
 def audit_reader_goes(run):
-    """The audit goes into a pipe that nobody reads any more."""
+    """The audit goes into a pipe whose reader has left."""
     peer = run.peer()
     path = os.path.join(run.folder(), "pipe")
     os.mkfifo(path)
@@ -449,7 +449,7 @@ def unread(number):
 
 def outputs_are_gone(run):
     """Standard output or error is full, closed, or a pipe that nobody reads: the status is as it would be, the audit is
-    written, and so is the report where it can be."""
+    written, and so is the report if it can be."""
     for out, errors in itertools.product((None, full, closed, unread), repeat=2):
         def before():
             for number, change in ((1, out), (2, errors)):

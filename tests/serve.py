@@ -25,10 +25,10 @@ import time
 sys.dont_write_bytecode = True
 
 from measured import Load, check_changes, check_currency, check_load, flooded
-from serving import (ENDED, END, LOOPBACK, ONE_PACKET, PATIENCE, QUIET_SECONDS, Failure, address_space, check,
-                     ends_by_itself, expect, expect_equal, frame, frames, is_blocked, listeners, lower, lowest_free,
-                     one_packet, packets, packets_until_torn, record, records, reset, send_on, tcp_connections, total,
-                     try_cases, wait_for)
+from serving import (ENDED, END, LATE_UPLINK, LOOPBACK, LOST_UPLINK, NO_DESCRIPTOR, ONE_PACKET, PATIENCE,
+                     QUIET_SECONDS, Failure, address_space, check, ends_by_itself, expect, expect_equal, frame, frames,
+                     is_blocked, listeners, lower, lowest_free, one_packet, packets, packets_until_torn, record,
+                     records, reset, send_on, tcp_connections, total, try_cases, wait_for)
 
 # Seconds for a case, and for all of them.
 LIMIT = 240
@@ -40,8 +40,8 @@ MOST_ENDS = 8
 # How often a life is spent while clients wait to send.
 BLOCKED_RUNS = 10
 
-# Half of the packets that come to a server that sleeps are at the far end within so many seconds, beyond those that they
-# take through a plain program: the system holds a frame back for up to 0.04.
+# Half of the packets that come to a server that sleeps are at the far end within that many seconds, beyond those that
+# they take through a plain program: the system holds a frame back for up to 0.04.
 PROMPT = 0.015
 
 # How many packets of a flood may be refused for each that is sent.
@@ -52,7 +52,7 @@ MOST_REFUSED = 0.01
 SLOW_END = 1e6
 SLOW_END_SECONDS = 45
 
-# A server whose life is spent ends within so many seconds, and so many times what a plain program takes that writes a
+# A server whose life is spent ends within that many seconds, and that many times those of a plain program that writes a
 # file of MUCH bytes.
 SPENT_END = 1
 SPENT_END_BESIDE = 5
@@ -62,13 +62,13 @@ WRITE_MUCH = "import sys\nwith open(sys.argv[1], 'w') as file:\n    file.write('
 # A server that has nothing to do, or waits for its far end, may use this share of a core: its threads sleep.
 ASLEEP_SHARE = 0.0005
 
-# A connection gives so many bytes at most once the end has begun, and before that any number.
+# A connection gives that many bytes at most once the end has begun, and before that any number.
 LAST_BYTES = 1 << 24
 
-# For so many seconds after the beginning of the end replies may wait, and a write call on the uplink.
+# For that many seconds after the beginning of the end replies may wait, and a write call on the uplink.
 GRACE = 5
 
-# So many servers are started at most until the number of write calls of one is odd, or even.
+# That many servers are started at most until the number of write calls of one is odd, or even.
 TRIES = 12
 
 REPORT = """\
@@ -112,7 +112,7 @@ def served(run):
 
 
 def quiet(run):
-    """Without --verbose nothing is told. The ports are found among those that the process listens on."""
+    """Without --verbose nothing is printed. The ports are found among those that the process listens on."""
     peer = run.peer()
     server = run.start(peer.address, verbose=False, ingress="127.0.0.2:0", control="127.0.0.3:0")
     server.ports = wait_for(lambda: listeners(server.process.pid), "two sockets that listen")
@@ -126,7 +126,7 @@ def quiet(run):
 
 
 def control_lines(run):
-    """What a control connection answers to lines of all kinds."""
+    """The answers of a control connection to lines of all kinds."""
     peer = run.peer()
     server = run.server(peer, clerks=2)
     first, second = server.control(), server.control()
@@ -219,7 +219,7 @@ def accepted_in_order(run):
 
 
 def seconds_through(connection, peer, some, size):
-    """How long packets take to a peer, at which they have so many bytes."""
+    """How long packets take to a peer, at which they have that many bytes."""
     got, start = len(peer.got) + size, time.monotonic()
     connection.sendall(records(some))
     wait_for(lambda: len(peer.got) == got, "the frames of %d packets" % len(some))
@@ -354,7 +354,7 @@ def shares_at_slow_far_ends(run):
 
 
 def shares_of_tariffs(run):
-    """The same where each flow has another tariff, other lengths, and a great buffer."""
+    """The same if each flow has another tariff, other lengths, and a great buffer."""
     check_load(run, Load("25 MB/s, four tariffs", 2.5e7, limit=1024, tariffs=(1, 2, 3, 4),
                          lengths=("64,1400", "700,9000", "300", "1490,8")))
 
@@ -530,8 +530,8 @@ def gets_all(run, peer, some):
 
 
 def peer_writes_back(run):
-    """What the peer says is read away: neither does it disturb the run, nor is the end of the frames lost by it, which
-    is still on its way when the server has sent all, since the peer reads slowly."""
+    """Bytes from the peer are read away: neither does it disturb the run, nor is the end of the frames lost by it,
+    which is still on its way when the server has sent all, since the peer reads slowly."""
     def write_back(peer):
         peer.connection.sendall(b"hello " * 1000)
         while peer.read(700):
@@ -660,7 +660,7 @@ def unacknowledged(connection):
 
 
 def until_eof_floods(run):
-    """A client that goes on sending is cut off, long before it has spent a life, and the audit tells what was
+    """A client that goes on sending is cut off, long before it has spent a life, and the audit has what was
     admitted."""
     peer = run.peer()
     server = run.server(peer, until_eof=True, life=1 << 20)
@@ -723,7 +723,8 @@ def unread_replies(run):
 
 
 def what_had_come(run):
-    """What had come when standard input ended is answered, admitted, sent and settled, if the peer takes it in time."""
+    """Bytes that had come when standard input ended are answered, admitted, sent and settled, if the peer takes them in
+    time."""
     peer = run.peer(lambda peer: peer.go_on.wait(), narrow=True)
     server = run.server(peer, until_eof=True)
     control = server.control()
@@ -792,7 +793,7 @@ def dead_peer(run, is_odd):
 
 
 def stalled(run, some, frames_before):
-    """A server whose link waits for a peer that reads so many frames of 1017 bytes, and then nothing until it is told
+    """A server whose link waits for a peer that reads that many frames of 1017 bytes, and then nothing until it is told
     to: the peer, the server, and what sends these packets."""
     def die(peer):
         while len(peer.got) < 1017 * frames_before and peer.read(1017 * frames_before - len(peer.got)):
@@ -820,7 +821,7 @@ def torn_at_the_end(server, peer, some):
     status = server.wait(END)
     peer.go_on.set()
     expect_equal(status, 1, "status")
-    server.ends(1, "the uplink failed")
+    server.ends(1, LATE_UPLINK)
     replay = check(server, peer, [("part", some)], torn=True)
     expect_equal(replay.lines.count("torn"), 1, "faults in the audit")
     return replay
@@ -971,7 +972,7 @@ def tears(run, is_awake):
             ends.clients[1].sendall(b"" if is_awake else record(*ends.sent[1][number - 1]))
         time.sleep(0.05)
     ends.leave()
-    ends.is_ended(1, "the uplink failed", torn=True)
+    ends.is_ended(1, LOST_UPLINK, torn=True)
 
 
 def refuse_threads(server):
@@ -1046,7 +1047,7 @@ def fault_addresses(run):
 
 
 def fault_memory(run):
-    """A life that there is no memory for is told before anything listens."""
+    """A life that there is no memory for is reported before anything listens."""
     peer = run.peer()
     size = 160 << 20
     server = run.start(peer.address, life=1 << 24,
@@ -1060,6 +1061,8 @@ def fault_accept(run):
     """A connection that finds no descriptor ends the run, with its audit and report."""
     peer = run.peer()
     server = run.server(peer, clerks=2)
+    # A call that accepts takes its descriptor before it waits: without one it ends the run before anybody connects.
+    wait_for(lambda: is_blocked(server, [], ASLEEP_SHARE), "a server that sleeps")
     lower(server, resource.RLIMIT_NOFILE, lowest_free(server))
     first, second = server.control(), None
     try:
@@ -1067,7 +1070,7 @@ def fault_accept(run):
         first.fund()
     except (OSError, Failure):
         pass
-    server.ends(1, "cannot accept a connection", seconds=END)
+    server.ends(1, NO_DESCRIPTOR, seconds=END)
     for control in filter(None, (first, second)):
         control.vanish()
     check(server, peer, [])
@@ -1105,7 +1108,7 @@ def fault_control_thread(run):
 
 
 def fault_files(run):
-    """An audit that cannot be opened is told before anything listens, one that cannot be written at the end."""
+    """An audit that cannot be opened is reported before anything listens, one that cannot be written at the end."""
     peer = run.peer()
     missing = os.path.join(run.folder(), "missing", "audit")
     for path, why in ((missing, "entity not found"), ("/", "is a directory")):
@@ -1214,7 +1217,7 @@ def ended_by_a_signal(run):
 
 
 def wait_for_line(server, line):
-    """Waits until a server that runs has told a line that begins so; the line."""
+    """Waits until a server that runs has printed a line that begins so; the line."""
     def told():
         found = [text for text in server.text("stderr").splitlines() if text.startswith(line)]
         expect(server.process.poll() is None, "the server has ended")
@@ -1224,7 +1227,7 @@ def wait_for_line(server, line):
 
 
 def tells_what_it_waits_for(run):
-    """A server tells what it waits for: its uplink, each connection in turn, their ends, and what is left to be sent.
+    """A server prints what it waits for: its uplink, each connection in turn, their ends, and what is left to be sent.
     """
     peer = run.peer()
     server = run.server(peer, clerks=2)
@@ -1247,8 +1250,8 @@ def tells_what_it_waits_for(run):
 
 
 def tells_of_an_uplink(run):
-    """A server whose uplink is lost tells it, with the reason, when a write fails; one whose far end reads nothing
-    tells once that it waits."""
+    """A server whose uplink is lost prints that, with the reason, when a write fails; one whose far end reads nothing
+    prints once that it waits."""
     peer = run.peer(lambda peer: reset(peer.connection))
     server = run.server(peer)
     control = server.control()
@@ -1264,7 +1267,7 @@ def tells_of_an_uplink(run):
     control.ask_wanted(["mkcur x"], ["ok"])
     client.close()
     control.close()
-    server.ends(1, "the uplink failed")
+    server.ends(1, "the uplink failed: " + line.split(": ")[1])
     expect_equal(server.text("stderr").count("the uplink is lost"), 1, "how often the loss is told")
     peer = run.peer(lambda peer: peer.go_on.wait(), narrow=True)
     server = run.server(peer)

@@ -1,5 +1,5 @@
-"""What the cases of serve.py and hostile.py use: the server that is tried, the clients and the peer of its uplink, the
-checks that hold for each run, and what tries the cases."""
+"""The tools of the cases of serve.py and hostile.py: the server that is tried, the clients and the peer of its uplink,
+the checks that hold for each run, and what tries the cases."""
 import contextlib
 import os
 import re
@@ -33,13 +33,18 @@ LINK = beside("stridelink-link")
 PATIENCE = 60
 END = 120
 
-# A server that waits may use this share of a core, measured over so many seconds.
+# A server that waits may use this share of a core, measured over that many seconds.
 QUIET_SECONDS = 1.5
 QUIET_SHARE = 0.02
 
 # The lines of --verbose that are wanted: these two once the server listens, and one for each connection that ended.
 LISTENING = re.compile(r"^listening for (ingress|control) on 127\.0\.0\.1:(\d+)$", re.MULTILINE)
 ENDED = "%s %d: ended"
+
+# The faults of a server that have the system's reason: what a write on a lost uplink finds depends on the moment.
+NO_DESCRIPTOR = "cannot accept a connection: Too many open files (os error 24)"
+LOST_UPLINK = ("the uplink failed: connection reset", "the uplink failed: broken pipe")
+LATE_UPLINK = "the uplink failed: timed out"
 
 # The version of frames and audits that a served link writes.
 SERVED = 2
@@ -96,7 +101,7 @@ def record(name, payload):
 
 
 def payloads(connection, count, size):
-    """So many payloads of so many bytes, 5 or more, that no other connection has."""
+    """That many payloads of that many bytes, 5 or more, that no other connection has."""
     filling = bytes(i * 7 % 256 for i in range(size - 5))
     return [struct.pack(">BI", connection, number) + filling for number in range(count)]
 
@@ -111,7 +116,7 @@ def records(some):
 
 
 def frame(flow, seq, payload, tariff=1, version=SERVED):
-    """A frame. One of version 1 does not tell the tariff of its flow."""
+    """A frame. One of version 1 does not have the tariff of its flow."""
     numbers = (flow, seq, len(payload)) if version == 1 else (tariff, flow, seq, len(payload))
     return bytes([0x4c, version]) + struct.pack(FIELDS[version], *numbers) + payload
 
@@ -158,8 +163,8 @@ def ends_by_itself(connection):
 
 class Peer:
     """The peer of the uplink: a thread that accepts one connection and reads what is sent. `behave(peer)` is what it
-    does first; after that it reads to the end. A narrow one lets few bytes wait on the way, some 25,000: the system
-    then wakes the writer where a third of them is free."""
+    does first; after that it reads to the end. A narrow one lets few bytes wait on the way, about 25,000: the system
+    then wakes the writer if a third of them is free."""
 
     def __init__(self, behave=None, narrow=False):
         self.got = bytearray()
@@ -286,7 +291,7 @@ class Server:
             return source.read()
 
     def listens(self):
-        """Waits until the server tells its ports."""
+        """Waits until the server prints its ports."""
         def told():
             self.ports = dict(LISTENING.findall(self.text("stderr")))
             return len(self.ports) == 2 or self.process.poll() is not None
@@ -314,7 +319,8 @@ class Server:
             raise Failure("the server does not end; it told: %s" % shortened(self.text("stderr"))) from None
 
     def ends(self, status=0, fault=None, seconds=PATIENCE):
-        """Wants that the server ends with this status, and that this fault is the last line that it tells."""
+        """Wants that the server ends with this status, and that this fault, or one of these, is the last line that it
+        tells."""
         found = self.wait(seconds)
         told = self.text("stderr")
         expect_equal(found, status, "status (told: %s)" % shortened(told))
@@ -322,7 +328,8 @@ class Server:
         if fault is None:
             expect(not last.startswith("stridelink: "), "a fault is told: %s" % last)
         else:
-            expect_equal(last, "stridelink: " + fault, "the last line")
+            faults = (fault,) if isinstance(fault, str) else fault
+            expect(last in ["stridelink: " + one for one in faults], "the last line: %s, not %s" % (last, fault))
             expect_equal(told.count("stridelink: "), 1, "how many faults are told")
 
     def processor_seconds(self):
@@ -483,7 +490,7 @@ def check_arrivals(replay, sent):
 
 def check_frames(replay):
     """Wants that the packets of each flow were sent in the order in which they were accepted, counted from 1, and that
-    each frame tells the tariff of its flow."""
+    each frame has the tariff of its flow."""
     accepted, tariffs = defaultdict(list), replay.tariffs()
     for _, payload, reply in replay.arrivals():
         word, *numbers = reply.split()
@@ -505,8 +512,8 @@ def check_frames(replay):
 
 
 def check(server, peer, sent=None, torn=False):
-    """What holds for each run that has ended: the audit gives the bytes that the peer got, or bytes that begin with
-    them where the uplink is torn; each connection's packets stand in it, where these are told; and the report is that
+    """The checks of each run that has ended: the audit gives the bytes that the peer got, or bytes that begin with
+    them if the uplink is torn; each connection's packets stand in it, if these are told; and the report is that
     of the audit."""
     with open(server.audit_path, encoding="ascii") as source:
         replay = Replay(source.read(), server.life)
@@ -549,7 +556,7 @@ def packets_until_torn(run, peer):
     control.ask_wanted(["mkcur x"], ["ok"])
     wait_for(lambda: total("accepted", sent + 2) in control.ask("report")[0], "arrivals on a torn link")
     control.close()
-    server.ends(1, "the uplink failed")
+    server.ends(1, LOST_UPLINK)
     replay = check(server, peer, [("whole", some[:sent + 2])], torn=True)
     expect_equal(sum(reply.startswith("torn 1 ") for reply in replay.replies), 1, "faults in the audit")
     expect_equal(replay.lines.count("torn"), 1, "faults in the audit")
@@ -595,7 +602,7 @@ with socket.create_connection((host, int(port))) as uplink:
 
 
 class Run:
-    """What a case may use. All of it ends with the case."""
+    """The tools of a case. All of it ends with the case."""
 
     def __init__(self):
         self.stack = contextlib.ExitStack()
@@ -637,7 +644,7 @@ class Run:
         return beside
 
     def echo(self):
-        """What asks a plain program a line, and waits for its reply."""
+        """A client that asks a plain program a line, and waits for its reply."""
         process = subprocess.Popen([sys.executable, "-c", ECHO], stdin=subprocess.PIPE, stdout=subprocess.PIPE,
                                    bufsize=0)
         self.stack.callback(discard, process)

@@ -1,5 +1,5 @@
 #!/usr/bin/env python3
-"""Stops and continues the built program while nobody reads its output. Where the output is a socket with a limit of
+"""Stops and continues the built program while nobody reads its output. If the output is a socket with a limit of
 time, the system interrupts the write that waits: no answer may be lost by that. Ends by itself within a minute."""
 
 import os

@@ -10,11 +10,11 @@ import sys
 HERE = os.path.dirname(os.path.abspath(__file__))
 PROGRAM = os.path.join(HERE, "..", "bin", "stridelink")
 EXAMPLE = os.path.join(HERE, "..", "examples", "one-packet")
-SAYS = b"stridelink: reads the lines of a script; 'stridelink run --help' tells them\n"
+SAYS = b"stridelink: reads the lines of a script; 'stridelink run --help' lists them\n"
 
 
 def run(words, typed):
-    """What the program prints and says where this is typed, and then the end of the input."""
+    """The output of the program if this is typed, and then the end of the input."""
     ours, theirs = pty.openpty()
     with subprocess.Popen([PROGRAM, *words], stdin=theirs, stdout=subprocess.PIPE, stderr=subprocess.PIPE) as link:
         os.close(theirs)

@@ -18,7 +18,7 @@ from serving import LOOPBACK, PATIENCE, TOP, Failure, expect, expect_equal, shor
 
 LIMIT, LIMIT_OF_ALL = 120, 600
 
-# What the rules say: bytes of a head, fields of it, connections at a time, seconds of a connection.
+# The limits of the rules: bytes of a head, fields of it, connections at a time, seconds of a connection.
 MOST_BYTES = 8192
 MOST_FIELDS = 64
 MOST_CLIENTS = 32
@@ -30,7 +30,7 @@ POLICY = re.compile(r"default-src 'none'; connect-src 'self'; img-src data:; bas
 REASONS = {400: "Bad Request", 404: "Not Found", 405: "Method Not Allowed", 414: "URI Too Long",
            421: "Misdirected Request", 431: "Request Header Fields Too Large", 505: "HTTP Version Not Supported"}
 
-# What is at each target: the type of its body.
+# The content at each target: the type of its body.
 TYPES = {"/": "text/html; charset=utf-8", "/status.json": "application/json", "/books.csv": "text/csv; charset=utf-8",
          "/metrics": "text/plain; version=0.0.4; charset=utf-8"}
 OPEN_METRICS = "application/openmetrics-text; version=1.0.0; charset=utf-8"
@@ -295,7 +295,7 @@ def slow(run):
 
 
 def ended(connection):
-    """What comes on a connection until its end, which may be a reset."""
+    """The bytes of a connection until its end, which may be a reset."""
     data = b""
     with contextlib.suppress(ConnectionResetError):
         while piece := connection.recv(1 << 16):

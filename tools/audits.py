@@ -11,7 +11,7 @@ from reports import NoReport, read_report
 
 BUILT = os.path.join(os.path.dirname(os.path.dirname(os.path.realpath(__file__))), "bin", "stridelink")
 
-# The tool that runs, as it was called: bill, or stridelink-bill where it is installed.
+# The tool that runs, as it was called: bill, or stridelink-bill if it is installed.
 NAME = os.path.basename(sys.argv[0])
 
 # That of the variable STRIDELINK, or else the one that was built here, or else the one that is installed.
@@ -44,7 +44,7 @@ STANDARD_OUTPUT = 1
 
 
 class Fault(Exception):
-    """What keeps a tool from its work, as it is told on standard error."""
+    """A fault that keeps a tool from its work, as it is printed on standard error."""
 
 
 class NoAudit(Fault):
@@ -54,7 +54,7 @@ class NoAudit(Fault):
 @dataclass(frozen=True)
 class Answered:
     """A line of an audit: its number, the first line being 1, its words and those of its answer, and the report on the
-    link in front of it, where one was asked for."""
+    link in front of it, if one was asked for."""
     number: int
     words: list
     answer: list
@@ -62,7 +62,7 @@ class Answered:
 
 
 def why_unprinted(words, answer):
-    """Why no journal prints a line of these words that is answered so; None where one may."""
+    """Why no journal prints a line of these words that is answered so; None if one may."""
     text = " ".join(answer)
     if text in ANSWERS_TO_NO_EVENT or (words[0] in ("send", "turn") and text == "no 4 Range"):
         return "is answered '%s'" % text
@@ -210,7 +210,7 @@ def print_whole(text):
 
 
 def run_tool(work):
-    """Runs a tool, and ends it. A fault is told, with status 1."""
+    """Runs a tool, and ends it. A fault is printed, with status 1."""
     try:
         work()
     except OSError as fault:

@@ -1,5 +1,5 @@
-"""What the lines of an audit say of each flow, computed by the rules of the tariffs and compared with what the program
-answers: two ways to the same account."""
+"""The traffic of each flow by the lines of an audit, computed by the rules of the tariffs and compared with what the
+program answers: two ways to the same account."""
 from collections import deque
 from dataclasses import dataclass, field
 
@@ -24,7 +24,7 @@ TARIFFS = {1: Tariff(1, 0, 1), 2: Tariff(48, 16, 2), 3: Tariff(1024, 0, 1), 4: T
 
 @dataclass
 class Flow:
-    """A flow's bill. `account` is what the program tells, and `tickets` are those with which the link chose the flow's
+    """A flow's bill. `account` is that of the program, and `tickets` are those with which the link chose the flow's
     last frame; a flow of which no frame was begun has 0. `waiting` has the lengths of the payloads that wait."""
     number: int
     name: str
@@ -85,7 +85,7 @@ class Books:
             self.charge(flow)
 
     def send(self, flow, number, count):
-        """So many bytes of a flow's frame went out, by the line of this number."""
+        """That many bytes of a flow's frame went out, by the line of this number."""
         if self.part == 0:
             flow.last_frame = number
         flow.bytes += count
@@ -103,7 +103,7 @@ def agree(what, told, computed):
 
 
 def check(books, report):
-    """Wants that the rules come to what the program tells: each account, and the sums."""
+    """Wants that the rules come to what the program prints: each account, and the sums."""
     flows = books.flows.values()
     for flow in flows:
         agree("the account of flow %d (%s)" % (flow.number, flow.name), flow.account, flow.units * flow.tariff.price)

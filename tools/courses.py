@@ -31,7 +31,7 @@ class Course:
 
 
 def write_lines(path):
-    """The numbers of the lines that write, or tell of a fault."""
+    """The numbers of the lines that write, or report a fault."""
     with opened(path) as audit:
         for number, line in enumerate(audit, 1):
             if line.startswith((b"turn ", b"torn")):
@@ -39,7 +39,7 @@ def write_lines(path):
 
 
 def samples(path, most):
-    """The numbers of some lines that write, evenly over all of them: all where these are no more than `most`."""
+    """The numbers of some lines that write, evenly over all of them: all if these are no more than `most`."""
     step = -(-sum(1 for _ in write_lines(path)) // most) or 1
     return set(islice(write_lines(path), 0, None, step))
 

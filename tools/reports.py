@@ -14,8 +14,8 @@ class NoReport(Exception):
 
 @dataclass(frozen=True)
 class FlowRow:
-    """What a report says of an open flow. `place` is its pass while it competes, and else its remain. A flow that is
-    held does not compete."""
+    """The line of an open flow in a report. `place` is its pass while it competes, and otherwise its remain. A flow
+    that is held does not compete."""
     number: int
     name: str
     tickets: int

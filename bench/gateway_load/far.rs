@@ -19,7 +19,7 @@ const INTERVAL: Duration = Duration::from_millis(50);
 const PATIENCE: Duration = Duration::from_millis(10);
 const MOST: usize = 1 << 18;
 
-/// A far end with a rate reads what came free in a pause, and at most what came free in so many seconds.
+/// A far end with a rate reads what came free in a pause, and at most what came free in that many seconds.
 const PAUSE: f64 = 0.004;
 const SAVED: f64 = 0.05;
 

@@ -20,14 +20,14 @@ use std::time::Duration;
 /// About how many bytes go out in one call.
 const CHUNK: usize = 1 << 16;
 
-/// The lengths of drawn packets: one in so many is up to the longest, one in so many up to the usual ones, and the
+/// The lengths of drawn packets: one in that many is up to the longest, one in that many up to the usual ones, and the
 /// others are short.
 const LONG_ONE_IN: u64 = 16;
 const USUAL_ONE_IN: u64 = 3;
 const MOST_USUAL: u64 = 1490;
 const MOST_SHORT: u64 = 128;
 
-/// After one chunk in so many there is a pause, of so many milliseconds at most, or the connection ends.
+/// After one chunk in that many there is a pause, of that many milliseconds at most, or the connection ends.
 const PAUSE_ONE_IN: u64 = 8;
 const MOST_PAUSE: u64 = 40;
 const END_ONE_IN: u64 = 64;

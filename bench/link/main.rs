@@ -3,7 +3,8 @@
 //!
 //! `link BYTES_A_SECOND MILLISECONDS QUEUE_BYTES DESCRIPTOR DESCRIPTOR`
 //!
-//! When a packet leaves is computed from the rate. So a program that runs late sends late, and loses none of the rate.
+//! When a packet leaves is computed from the rate. A packet counts as if it came when no packet waited last. So a
+//! program that runs late sends late, and loses none of the rate.
 
 #[path = "../pump/system.rs"]
 #[allow(dead_code)]
@@ -22,23 +23,28 @@ const LONGEST_PACKET: usize = 65536;
 /// How many packets are read before those that are due are given.
 const OFTEN: usize = 16;
 
+/// How long packets are waited for at a time. Each counts as come at most that much too early if the program runs in
+/// time.
+const LOOK: Duration = Duration::from_millis(1);
+
 struct Direction {
     from: File,
     to: File,
     rate: f64,
     delay: Duration,
     queue: f64,
+    // When the link has sent what it took, and when no packet waited last.
     free: Instant,
+    empty: Instant,
     packets: VecDeque<(Instant, Box<[u8]>)>,
 }
 
 impl Direction {
-    /// Queues a packet that comes now, unless the queue is full.
+    /// Queues a packet, unless the queue is full.
     fn take(&mut self, packet: &[u8]) {
-        let time = Instant::now();
-        let start = self.free.max(time);
+        let start = self.free.max(self.empty);
         let length = packet.len() as f64;
-        if (start - time).as_secs_f64() * self.rate + length > self.queue {
+        if start.saturating_duration_since(Instant::now()).as_secs_f64() * self.rate + length > self.queue {
             return;
         }
         self.free = start + Duration::from_secs_f64(length / self.rate);
@@ -61,10 +67,14 @@ impl Direction {
     fn run(&mut self) -> io::Result<()> {
         let mut packet = vec![0; LONGEST_PACKET];
         loop {
-            let pause = self.give();
-            wait(&mut [Polled::new(&self.from, READS)], pause)?;
+            let pause = self.give().map_or(LOOK, |pause| pause.min(LOOK));
+            wait(&mut [Polled::new(&self.from, READS)], Some(pause))?;
             for _ in 0..OFTEN {
-                let Some(length) = now(self.from.read(&mut packet))? else { break };
+                let time = Instant::now();
+                let Some(length) = now(self.from.read(&mut packet))? else {
+                    self.empty = time;
+                    break;
+                };
                 self.take(&packet[..length]);
             }
         }
@@ -86,6 +96,7 @@ fn run() -> io::Result<()> {
             delay: Duration::from_millis(u64::from(*delay)),
             queue: f64::from(*queue),
             free: Instant::now(),
+            empty: Instant::now(),
             packets: VecDeque::new(),
         })
     };

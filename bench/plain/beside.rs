@@ -18,7 +18,7 @@ const WORKERS: usize = 2;
 /// How many records stand in the pattern that a worker reads again and again.
 const PATTERN: usize = 90;
 
-/// Gives a pattern so many times.
+/// Gives a pattern that many times.
 struct Again {
     pattern: Vec<u8>,
     rounds: u64,
@@ -60,7 +60,7 @@ fn port(life: u64, queue: Receiver<Offer>) -> io::Result<Port<Sink>> {
     Ok(Mutex::new(locked))
 }
 
-/// Reads so many patterns in each worker; how many records came to the link.
+/// Reads that many patterns in each worker; how many records came to the link.
 pub fn arrivals(size: u16, rounds: u64) -> io::Result<u64> {
     let (sender, receiver) = sync_channel(CAPACITY);
     let port = port(4 * (PATTERN * WORKERS) as u64 * rounds + 16, receiver)?;

@@ -30,7 +30,7 @@ pub fn is_hexadecimal(payload: &[u8]) -> bool {
     payload.as_chunks().0.iter().fold(0, |seen, pair| seen | spelled(pair)) < NO_BYTE
 }
 
-/// Frames one after the other, from `first` to `end`. Each tells its size.
+/// Frames one after the other, from `first` to `end`. Each has its size.
 pub struct Buffer {
     version: Version,
     limit: usize,
@@ -97,7 +97,7 @@ impl Buffer {
         self.version.first_frame(&self.frames[self.first..self.end])
     }
 
-    /// Takes the first frame out, which has so many bytes.
+    /// Takes the first frame out, which has that many bytes.
     pub fn pop(&mut self, size: usize) {
         self.first += size;
         self.count -= 1;

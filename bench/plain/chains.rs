@@ -66,7 +66,7 @@ impl Chains {
         }
     }
 
-    /// A ticket of one currency funds another no longer.
+    /// A ticket of one currency ceases to fund another.
     pub fn unlink(&mut self, from: usize, to: usize) {
         self.links[from][to] -= 1;
         if self.links[from][to] == 0 {

@@ -142,7 +142,7 @@ impl Connections {
     }
 }
 
-/// A connection for reading, which gives at most so many bytes more once the end has begun.
+/// A connection for reading, which gives at most that many bytes more once the end has begun.
 pub struct Source<'a> {
     stream: &'a TcpStream,
     connections: &'a Connections,

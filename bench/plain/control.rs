@@ -24,7 +24,7 @@ struct Clerk<'a, U, W> {
 }
 
 impl<U: Write, W: Fn()> Clerk<'_, U, W> {
-    /// Answers all lines that are whole; how many bytes they have. The link is told of what was commanded before a
+    /// Answers all lines that are whole; how many bytes they have. The link hears of each command before a
     /// reply is written, since that may wait.
     fn answer(&mut self, bytes: &[u8]) -> io::Result<usize> {
         let mut at = 0;
@@ -58,7 +58,7 @@ pub fn attend<U: Write>(mut source: impl Read, output: Output, port: &Port<U>, w
         filled += count;
         let Ok(answered) = clerk.answer(&buffer[..filled]) else { return (How::WriteFault, clerk.receipts) };
         buffer.copy_within(answered..filled, 0);
-        // Of a line that is too long its beginning tells enough.
+        // The beginning of a line that is too long is enough.
         filled = (filled - answered).min(MAX_LINE + 1);
     }
 }

@@ -3,7 +3,7 @@
 /// The most bytes of a header.
 pub const MAX_HEADER: usize = 17;
 
-/// What a header tells besides the size of the payload. The tariff is that of the flow.
+/// The fields of a header besides the size of the payload. The tariff is that of the flow.
 #[derive(Clone, Copy)]
 pub struct Header {
     pub tariff: u8,
@@ -11,7 +11,7 @@ pub struct Header {
     pub seq: u32,
 }
 
-/// Which frames a link writes, and which audit tells of it.
+/// The frames that a link writes, and the audit that has them.
 #[derive(Clone, Copy)]
 pub enum Version {
     One,
@@ -49,7 +49,7 @@ impl Version {
         self.header_size() + self.max_payload()
     }
 
-    /// Writes the header of a frame with a payload of so many bytes.
+    /// Writes the header of a frame with a payload of that many bytes.
     pub fn write_header(self, frame: &mut [u8], header: Header, size: usize) {
         let Header { tariff, flow, seq } = header;
         let size = (size as u16).to_be_bytes();

@@ -1,4 +1,4 @@
-//! The events of a link, and the file that tells them.
+//! The events of a link, and the file that has them.
 
 use crate::frame::Version;
 use crate::records;

@@ -41,7 +41,7 @@ struct Flow {
 }
 
 impl Flow {
-    /// Posts so many bytes of a frame, and answers their units.
+    /// Posts that many bytes of a frame, and answers their units.
     fn post(&mut self, bytes: usize) -> u32 {
         let Tariff { cell, overhead, price, .. } = *self.tariff;
         let bytes = bytes as u32;
@@ -51,7 +51,7 @@ impl Flow {
         units
     }
 
-    /// What the frame of the next packet that comes will tell.
+    /// The header of the frame of the next packet that comes.
     fn header(&self) -> Header {
         Header { tariff: self.tariff.number, flow: self.number, seq: self.next }
     }
@@ -110,7 +110,7 @@ pub struct Link {
 }
 
 impl Link {
-    /// A link of a version. The first line of a script may tell another one.
+    /// A link of a version. The first line of a script may choose another one.
     pub fn new(version: Version, life: u64, output: Output) -> Link {
         Link {
             version,
@@ -235,7 +235,7 @@ impl Link {
         self.broken
     }
 
-    /// What the report tells of the link.
+    /// The totals in the report of the link.
     fn totals(&self) -> Totals {
         let (clock, tickets, pass) = self.queue.global();
         let (accepted, dropped, past) = self.closed;
@@ -248,7 +248,7 @@ impl Link {
         Totals { clock, accepted, torn, waiting, dropped, bytes, past, tickets, pass, link }
     }
 
-    /// What it tells of the open flows, in order of opening.
+    /// The lines of the open flows in the report, in order of opening.
     fn rows(&self) -> Vec<Row> {
         let mut rows: Vec<Row> = (0..MAX_FLOWS).filter_map(|place| self.row(place)).collect();
         rows.sort_by_key(|row| row.number);
@@ -547,7 +547,7 @@ impl Link {
         Ok(())
     }
 
-    /// The frame of a flow is torn after so many bytes.
+    /// The frame of a flow is torn after that many bytes.
     fn fail(&mut self, place: usize, out: usize) {
         self.broken = true;
         self.part = None;

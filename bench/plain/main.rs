@@ -63,7 +63,7 @@ fn run(link: &mut Link, script: &mut File) -> io::Result<()> {
         filled += count;
         let answered = answer_lines(link, &buffer[..filled])?;
         buffer.copy_within(answered..filled, 0);
-        // Of a line that is too long its beginning tells enough.
+        // The beginning of a line that is too long is enough.
         filled = (filled - answered).min(MAX_LINE + 1);
     }
     if filled > 0 {

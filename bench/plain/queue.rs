@@ -30,7 +30,7 @@ impl Client {
 pub struct Queue {
     heap: Heap,
     clients: [Client; 64],
-    /// The tickets of those that compete, and the stride of so many as last computed.
+    /// The tickets of those that compete, and the stride of that many as last computed.
     tickets: u64,
     strided: u64,
     stride: u64,
@@ -136,7 +136,7 @@ impl Queue {
         self.last = self.clock;
     }
 
-    /// Lets a client compete with so many tickets, or with none not compete.
+    /// Lets a client compete with that many tickets, or with none not compete.
     pub fn level(&mut self, place: usize, tickets: u32) {
         if !self.heap.contains(place as u8) {
             if tickets > 0 {

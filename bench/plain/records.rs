@@ -87,7 +87,7 @@ impl<R: Read> Buffer<R> {
     }
 }
 
-/// Queues the records of a connection until it ends, and tells the link of each; why it ended, and how many it queued.
+/// Queues the records of a connection until it ends, and rings the link for each; why it ended, and how many it queued.
 pub fn work(worker: usize, source: impl Read, queue: &SyncSender<Offer>, wake: impl Fn()) -> (Why, u64) {
     let mut buffer = Buffer { source, bytes: vec![0; ROOM].into(), first: 0, end: 0 };
     let mut tally = 0;

@@ -18,7 +18,7 @@ use std::sync::mpsc::{SyncSender, sync_channel};
 use std::sync::{Arc, Mutex};
 use std::thread::{Builder, Scope, ScopedJoinHandle, Thread, scope};
 
-/// What went wrong in a run, in the order in which it is told.
+/// A fault in a run, in the order in which faults are reported.
 #[derive(Clone, Copy, PartialEq, Eq, PartialOrd, Ord)]
 enum Fault {
     Accept,
@@ -89,7 +89,7 @@ impl Server {
         end
     }
 
-    /// No offer is taken any more, and nobody waits for that.
+    /// No more offers are taken, and nobody waits for that.
     fn end_link(&self) {
         hold(&self.port).queue = None;
         self.connections.end_link();
@@ -200,7 +200,7 @@ impl Server {
         })
     }
 
-    /// Whether what the threads did is what the journal tells.
+    /// Whether the threads did what the journal has.
     fn settle(&self, locked: &Locked<TcpStream>, books: &Books) {
         if locked.link.is_broken() {
             self.fault(Fault::Uplink);
@@ -214,7 +214,7 @@ impl Server {
         }
     }
 
-    /// Tells the counts, writes the audit and the report, and lets the uplink's peer have all that was sent.
+    /// Prints the counts, writes the audit and the report, and lets the uplink's peer have all that was sent.
     fn finish(&self, locked: &mut Locked<TcpStream>, file: AuditFile) {
         let _ = locked.uplink.shutdown(Shutdown::Write);
         let Journal { commands, arrivals, .. } = locked.journal;

@@ -77,7 +77,7 @@ WORKED_2 = {
                               "turn 8", "close a"), [(1, "a", 1, 1, 1508, 2048, 1, 2048, "closed")]),
 }
 
-# Texts that no journal prints, with the line at fault and what is told of it. Lines 2 to 6 of ONE_PACKET are fine.
+# Texts that no journal prints, with the line at fault and its message. Lines 2 to 6 of ONE_PACKET are fine.
 NO_JOURNAL = {
     "a report": (audit("report"), 2, "'report', asks for a report"),
     "a version twice": (audit("audit 1"), 2, "'audit 1', is answered 'no 3 Syntax'"),
@@ -108,7 +108,7 @@ NO_JOURNAL = {
 FIRST_LINES = ("", "audit 1", "audit 1\r\n", "audit 2", "audit 2 \n", "audit 3\n", "audit 02\n", "open a 4 1\n",
                "\naudit 2\n")
 
-# Answers that a link gives only where memory is short, its life is over, or a writer was interrupted: a program that
+# Answers that a link gives only if memory is short, its life is over, or a writer was interrupted: a program that
 # gives such an answer to each line stands in for it.
 STAND_INS = ("no 1 NoMemory", "no 2 Spent", "again")
 

@@ -71,7 +71,7 @@ def names(run):
 
 
 def beside(run):
-    """The programs may lie beside the command. Where they are missing that is a fault."""
+    """The programs may lie beside the command. If they are missing that is a fault."""
     folder = run.folder()
     with open(os.path.join(TOOLS, "stridelink"), "rb") as source:
         command = write(folder, "stridelink", source.read())

@@ -16,12 +16,12 @@ AS_UPLINK = ("-d", "tcp.port==%d,stridelink" % PORT)
 FIRST_SOURCE = 40000
 FIELDS = ("bad", "tariff", "version", "flow", "seq", "length", "payload")
 
-# By version: a frame, and what it is told as. Those of version 1 have no tariff.
+# By version: a frame, and its description. Those of version 1 have no tariff.
 HI = {version: frame(1, 1, b"hi", version=version) for version in (1, 2)}
 TOLD = {1: (1, 1, b"hi", None), 2: (1, 1, b"hi", 1)}
 
 # Bytes that begin with no whole frame: the place of the first field that no frame has, and after how many bytes this is
-# known; None where more is wanted.
+# known; None if more is wanted.
 NO_FRAME = {
     "": None,
     "4d": (0, 1),
@@ -79,7 +79,7 @@ def capture(run, connections):
 
 
 def tshark(run, connections, *words):
-    """What tshark prints of these connections, with the dissector."""
+    """The output of tshark for these connections, with the dissector."""
     done = subprocess.run(["tshark", "-r", "-", "-X", "lua_script:" + DISSECTOR, *words],
                           input=capture(run, connections), stdout=subprocess.PIPE, stderr=subprocess.PIPE,
                           timeout=LIMIT, check=False)
@@ -108,7 +108,7 @@ def dissected(run, connections, *words):
 
 
 def expect_dissected(run, cases, *words):
-    """Wants of connections what is told of each: (segments, frames, bad fields, what it is)."""
+    """Wants of connections the description of each: (segments, frames, bad fields, what it is)."""
     found = dissected(run, [case[0] for case in cases], *words)
     for (_, wanted, bad, what), shown in zip(cases, found):
         expect_equal(shown, (wanted, bad), what)
@@ -171,8 +171,8 @@ def both_versions(run):
 
 
 def no_frame(run):
-    """What is no frame is marked with the place of the field that no frame has: with a frame in front of it, with one
-    behind it, and one byte a segment, as soon as it is known."""
+    """Bytes that are not a frame are marked with the place of the field that no frame has: with a frame in front of it,
+    with one behind it, and one byte a segment, as soon as it is known."""
     cases = []
     for digits, bad in NO_FRAME.items():
         data = bytes.fromhex(digits)
@@ -225,7 +225,7 @@ def recognised(run):
 
 
 def page(run):
-    """What docs/SERVING.md shows of a frame of version 2 is what tshark prints."""
+    """The bytes of a frame of version 2 in docs/SERVING.md are as tshark prints them."""
     with open(os.path.join(TOP, "docs", "SERVING.md"), encoding="utf-8") as source:
         text = source.read()
     wanted = "".join("    %s\n" % line for line in printed(run, HI[2]))

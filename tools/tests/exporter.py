@@ -164,7 +164,7 @@ def waits_for(packets, exporter):
 
 
 def held(run):
-    """A flow that is held is told so, and has no tickets, until it is resumed. The server ends well while it is held
+    """A flow that is held is shown so, and has no tickets, until it is resumed. The server ends well while it is held
     again, with a packet that waits."""
     peer = run.peer()
     server = run.server(peer, clerks=2)
@@ -235,7 +235,7 @@ HELD_REPORT = REPORT.replace(" 1    0 ", " 0    1 ").replace(" in  ", " hld ")
 
 
 def answers(run):
-    """What is made of a refusal, of the report of a torn link, in pieces, with a flow that competes or is held, and of
+    """The metrics of a refusal, of the report of a torn link, in pieces, with a flow that competes or is held, and of
     an answer that is neither."""
     listener = socket.create_server((LOOPBACK, 0))
     run.stack.callback(listener.close)

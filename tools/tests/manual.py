@@ -18,7 +18,7 @@ GATEWAY_PAGE = "stridelink-gateway.1"
 FILE_PAGE = "stridelink-gateway.5"
 PAGES = (COMMANDS, FORMATS, TOOL_PAGE, GATEWAY_PAGE, FILE_PAGE)
 
-# What stands in the page for a place in the text of a fault.
+# The text in the page for a place in the text of a fault.
 PLACES = {"number": "N", "0": "LINE", "fault": "REASON", "reason": "REASON", "port": "PORT", "address": "ADDRESS"}
 
 
@@ -57,8 +57,8 @@ def source(crate, *path):
 
 
 def expect_all(wanted, least, text, what):
-    """Wants that all of these texts stand in a page, and that there are so many at least: else the sources were not
-    read well."""
+    """Wants that all of these texts stand in a page, and that there are that many at least: otherwise the sources were
+    not read well."""
     wanted = list(wanted)
     expect(len(wanted) >= least, "only %d found in the sources: %s" % (len(wanted), what))
     text = words_of(text)
@@ -110,7 +110,7 @@ def gateway_options(run):
 
 
 def tool_options(run):
-    """Each option and argument that a tool's help tells stands in its part of the synopsis, and each option has a
+    """Each option and argument that a tool's help has stands in its part of the synopsis, and each option has a
     paragraph."""
     text = page(TOOL_PAGE)
     synopsis, paragraphs = section(text, "SYNOPSIS"), section(text, "DESCRIPTION")
@@ -140,6 +140,7 @@ def faults(run):
              for text in re.findall(r'#\[error\("(.*?)"\)\]', source(*path)) if text != "{0}"]
     names = [text.replace("{0}", "FILE" if "audit" in text or "exists" in text else "ADDR").replace("{1}", "REASON")
              for text in texts]
+    names += [text + ": REASON" for text in ("cannot accept a connection", "the uplink failed")]
     expect_all(sorted(set(names)), 15, section(page(COMMANDS), "DIAGNOSTICS"), "faults")
 
 
@@ -255,7 +256,7 @@ def told(run):
 
 
 def statuses(run):
-    """Each status that help tells stands in the page."""
+    """Each status that help has stands in the page."""
     text = re.findall(r"Exit statuses:\n(.*?)\";", source("share_words", "help.rt"), re.DOTALL)
     wanted = {status for part in text for status in re.findall(r"^  (\d)  ", part, re.MULTILINE)}
     shown = set(re.findall(r"^     (\d)  ", section(page(COMMANDS), "EXIT STATUS"), re.MULTILINE))
@@ -316,7 +317,7 @@ def examples(run):
 
 
 def answered(run, script):
-    """What the program prints of a script."""
+    """The output of the program for a script."""
     path = write(run.folder(), "script", script)
     return subprocess.run([PROGRAM, "run", path], stdout=subprocess.PIPE, timeout=LIMIT, check=True).stdout.decode()
 

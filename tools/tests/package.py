@@ -1,5 +1,5 @@
 #!/usr/bin/env python3
-"""Tries the Debian package: that the same tree builds the same bytes, that lintian has no error, and, where dpkg has
+"""Tries the Debian package: that the same tree builds the same bytes, that lintian has no error, and, if dpkg has
 installed it in a root of its own, that the programs, the pages, the tools, the completions, the dissector and the unit
 work from where they lie there. That takes the rights of root."""
 import atexit
@@ -58,14 +58,14 @@ class Root:
             os.symlink("usr/" + part, self.path(part))
 
     def path(self, name):
-        """What a file of /tmp, or of another folder that is not the machine's, is called from outside."""
+        """The outer path of a file of /tmp, or of another folder that is not the machine's."""
         return os.path.join(self.folder, "root", name.lstrip("/"))
 
     def command(self, *words):
         return ["unshare", "--mount", "sh", "-c", IN_ROOT, "sh", self.folder, *words]
 
     def tell(self, *words):
-        """Wants that a command ends well and tells nothing on standard error: what it printed."""
+        """Wants that a command ends well and prints nothing on standard error: what it printed."""
         done = subprocess.run(self.command(*words), env=SETTINGS, stdin=subprocess.DEVNULL, stdout=subprocess.PIPE,
                               stderr=subprocess.PIPE, timeout=LIMIT, check=False)
         expect_equal((done.returncode, done.stderr.decode()), (0, ""), "status and fault of %s" % (words,))
@@ -216,7 +216,7 @@ class Typing:
         expect_equal(self.words(self.START), ["ready"], "words of the start")
 
     def words(self, typed):
-        """The words that the program is given where this is typed."""
+        """The words that the program is given if this is typed."""
         os.write(self.terminal, typed.encode())
         told, until = "", time.monotonic() + PATIENCE
         while True:
@@ -233,7 +233,7 @@ class Typing:
         os.close(self.terminal)
 
 
-# What is typed, a tab for each completion, and the words that come of it. A word that is not completed stays.
+# The typed text, a tab for each completion, and the words that come of it. A word that is not completed stays.
 COMPLETED = (
     ("se\t", ["serve"]),
     ("ru\t", ["run"]),
@@ -266,7 +266,7 @@ def completes(run):
 
 
 def completes_all(run):
-    """The options that are completed are those that help tells."""
+    """The options that are completed are those of the help."""
     for command in ("run", "serve", "bill", "gateway"):
         told = installed().tell("stridelink", command, "-h")
         options = sorted(set(re.findall(r"^ .*?(--[a-z-]+)", told, re.MULTILINE)))

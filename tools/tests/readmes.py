@@ -98,7 +98,7 @@ def make_scratch(folder, examples):
 
 
 def printed_by(examples):
-    """What each example printed."""
+    """The output of each example."""
     with tempfile.TemporaryDirectory() as folder:
         done = subprocess.run(["rt", "try"], cwd=make_scratch(folder, examples),
                               stdout=subprocess.PIPE, stderr=subprocess.PIPE, text=True, timeout=LIMIT, check=False)

@@ -29,7 +29,7 @@ FOURTH = {"a": 1099511627775, "b": 1099511627776, "c": 1099511627776}
 COMPETES = {"a": 4, "b": 5, "c": 6}
 
 # Two flows of a ticket and three packets each. a is held in front of the third frame and resumed in front of the fifth:
-# the frames are a1 b1 b2 b3 a2 a3, of 1024 units each. Where a is held it is promised nothing and has no pass; then its
+# the frames are a1 b1 b2 b3 a2 a3, of 1024 units each. If a is held it is promised nothing and has no pass; then its
 # pass is two strides of 2^40 above the one that it had, as the global pass is.
 HOLD = ("mktkt 1 base", "mktkt 1 base", "open a 4 3", "open b 4 3", "fund 1 flow a", "fund 2 flow b",
         *["send a 61"] * 3, *["send b 62"] * 3, *["turn 13"] * 2, "hold a", *["turn 13"] * 2, "resume a",

@@ -1,4 +1,4 @@
-"""What the tests of the tools use: cases that are tried one by one, each with a limit of time, and the tools."""
+"""The tools of the tests of the tools: cases that are tried one by one, each with a limit of time, and the tools."""
 import os
 import signal
 import subprocess
@@ -32,7 +32,7 @@ def tool(name, *words, program=PROGRAM, standard_input=None):
 
 
 def expect_works(name, *words, **further):
-    """Wants that a tool ends well and tells nothing on standard error: what it printed."""
+    """Wants that a tool ends well and prints nothing on standard error: what it printed."""
     status, printed, told = tool(name, *words, **further)
     expect_equal((status, told), (0, ""), "status and fault of %s" % name)
     return printed

@@ -30,7 +30,7 @@ SETTINGS = (
     ("--mtu 9000 acme", {"mtu": 9000, "qdisc": "noqueue", "txqlen": 200}, "1"),
     ("--ipv6 acme", {"mtu": 1400, "qdisc": "noqueue", "txqlen": 200}, "0"))
 
-# What is done before, the words, and the status with the end of what is said.
+# The steps before, the words, and the status with the end of what is said.
 FAULTS = (
     ("", "acme", 2, "error: -- COMMAND is wanted\n"),
     ("", "acme --", 2, "error: -- COMMAND is wanted\n"),
@@ -66,7 +66,7 @@ def alone(script, *words):
 
 
 def printed(script, *words):
-    """What a script prints that ends well and says nothing."""
+    """The output of a script that ends well and is silent."""
     status, text, said = alone(script, *words)
     expect_equal((status, said), (0, ""), script)
     return text
@@ -84,7 +84,7 @@ def order(_):
 
 
 def set_up(_):
-    """What each device is set to, whether it is made or was there."""
+    """The settings of each device, whether it is made or was there."""
     for before in ("", "ip tuntap add acme mode tun; ip address add 10.1.0.1/30 dev acme; "):
         for words, wanted, ipv6 in SETTINGS:
             text = printed(f"{before}{TUN} {words} -- ip -j address")
@@ -105,7 +105,7 @@ def faults(_):
 
 
 def packets(_):
-    """What is sent to the device is read, and what is written comes from it, a packet each."""
+    """Packets that are sent to the device are read, and those that are written come from it, a packet each."""
     text = printed(f"ip tuntap add acme mode tun; ip address add 10.1.0.1/30 dev acme; exec {TUN} acme -- \"$@\"",
                    sys.executable, "-c", TO_AND_FRO)
     expect_equal(text, "33 b'hello' ('10.1.0.2', 7)\n", "a packet to and fro")
@@ -126,7 +126,7 @@ def page(_):
                          ("10.2.1.0/24", "10.0.1.2", "acme"), ("10.2.2.0/24", "10.0.2.2", "bond")}, "routes")
 
 
-# What differs in the script of the other host.
+# The differences in the script of the other host.
 SOUTH = (("10.0.1.1/30", "10.0.1.2/30"), ("10.0.2.1/30", "10.0.2.2/30"),
          ("10.2.1.0/24 via 10.0.1.2", "10.1.1.0/24 via 10.0.1.1"),
          ("10.2.2.0/24 via 10.0.2.2", "10.1.2.0/24 via 10.0.2.1"))

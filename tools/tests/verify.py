@@ -28,7 +28,7 @@ class Example:
         return audit(*SENDS, *self.turns, version=self.version)
 
     def place(self, byte):
-        """How verify tells where a byte is from."""
+        """How verify prints where a byte is from."""
         return next("in packet %d of flow %d, which line %d of the audit wrote" % (packet, flow, line)
                     for written, line, packet, flow in self.written if byte in written)
 
@@ -135,7 +135,7 @@ BOOKS = {
 }
 BOOK_FRAMES = (frame(1, 1, b"hi", 1), frame(2, 1, b"b", 2), frame(1, 1, b"c", 1))
 
-# What the far end stored of each connection, and what is printed: as the status, the output and the fault.
+# The bytes that the far end stored of each connection, and the printed result: as the status, the output and the fault.
 SAME = (0, "the same 3 frames, in 2 books\n", "")
 LOST = (1, "", "verify: 2 frames are the same, and 1 frames of the books did not come\n")
 STORED = (

@@ -28,7 +28,7 @@ from measured import Load, check_changes, check_currency, check_load, flooded
 from serving import (ENDED, END, LATE_UPLINK, LOOPBACK, LOST_UPLINK, NO_DESCRIPTOR, ONE_PACKET, PATIENCE,
                      QUIET_SECONDS, Failure, address_space, check, ends_by_itself, expect, expect_equal, frame, frames,
                      is_blocked, listeners, lower, lowest_free, one_packet, packets, packets_until_torn, record,
-                     records, reset, send_on, tcp_connections, total, try_cases, wait_for)
+                     records, reset, reset_once_told, send_on, tcp_connections, total, try_cases, wait_for)
 
 # Seconds for a case, and for all of them.
 LIMIT = 240
@@ -495,7 +495,7 @@ def peer_closes_at_once(run):
 
 
 def peer_resets_at_once(run):
-    packets_until_torn(run, run.peer(lambda peer: reset(peer.connection)))
+    packets_until_torn(run, run.peer(reset_once_told))
 
 
 def peer_closes_after_some_bytes(run):
@@ -1252,8 +1252,9 @@ def tells_what_it_waits_for(run):
 def tells_of_an_uplink(run):
     """A server whose uplink is lost prints that, with the reason, when a write fails; one whose far end reads nothing
     prints once that it waits."""
-    peer = run.peer(lambda peer: reset(peer.connection))
+    peer = run.peer(reset_once_told)
     server = run.server(peer)
+    peer.go_on.set()
     control = server.control()
     control.fund()
     client, some = server.ingress(), packets("a", 0, 200, 1000)

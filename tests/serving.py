@@ -149,6 +149,12 @@ def reset(connection):
     connection.close()
 
 
+def reset_once_told(peer):
+    """Resets a peer's connection once the peer is told to go on. Before, the server may be connecting still."""
+    peer.go_on.wait()
+    reset(peer.connection)
+
+
 def ends_by_itself(connection):
     """Waits until the server has ended a connection, whether it said so or reset it."""
     connection.settimeout(PATIENCE)
@@ -539,6 +545,7 @@ def packets_until_torn(run, peer):
     """Sends packets one by one until the uplink is torn; what follows is admitted still, and a flow can be closed. On a
     machine that has other work the peer is given time to leave."""
     server = run.server(peer)
+    peer.go_on.set()
     control = server.control()
     control.fund()
     some = packets("a", 0, 2000, 1000)

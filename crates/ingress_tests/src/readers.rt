@@ -13,7 +13,7 @@ const LOOKS: u64 = 1000000000;
 /// Gives two records, one a read. Before the second it waits until a word is set, and fails if it never is.
 #[derive(Drop)]
 pub struct TwoRecords {
-    /// How many reads were made.
+    /// The number of reads made.
     pub reads: u64,
     pub word: Arc<AtomicU64>,
 }

@@ -27,7 +27,7 @@ impl<'a> Taking<'a> {
         Taking { rest: taken }
     }
 
-    /// How many of `length` bytes the next call takes.
+    /// The number of `length` bytes that the next call takes.
     pub fn next(&mut self, length: usize) -> io::Result<usize>
         ensures { IfOk result (λ count. count ≤ length) }
     {

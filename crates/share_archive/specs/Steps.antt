@@ -111,7 +111,7 @@ pub data Reaches (from : BookState) : BookState → Type 0 where
   whole : (s : BookState) (step : Step) → Reaches from s → May step s → Reaches from (after step s)
   killed : (s : BookState) (step : Step) → Reaches from s → May step s → Reaches from (cut_short step s)
 
--- How many steps are left
+-- The number of steps left
 
 abbrev pub text_left : BookText → ℕ
 text_left Absent = 0

@@ -1,11 +1,11 @@
-//! How many lines are sent before their replies are read.
+//! The number of lines sent before their replies are read.
 ghost use Rattle.std.specs.Prelude.{◌≤◌, ◌<◌, ◌+◌, length, sum_by, take};
 
-/// How many bytes of lines may wait for their replies. Sockets hold that much, so a peer that waits for its replies to
-/// be read before it reads on does not block the sender.
+/// The number of bytes of lines that may wait for their replies. Sockets hold that much, so a peer that waits for its
+/// replies to be read before it reads on does not block the sender.
 pub const AHEAD: usize = 16384;
 
-/// How many of these lines are sent together: as many as have at most `AHEAD` bytes with their line feeds, and at least
+/// The number of these lines sent together: as many as have at most `AHEAD` bytes with their line feeds, and at least
 /// one.
 pub fn batch_len(lines: &[&str]) -> usize
     requires { 0 < length lines.now }

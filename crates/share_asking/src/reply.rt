@@ -1,4 +1,4 @@
-//! How many rows a reply has, and whether it is a refusal. A row is given without its line feed.
+//! The number of rows in a reply, and whether it is a refusal. A row is given without its line feed.
 ghost use Rattle.std.specs.Prelude.{◌≡◌, codes, nat_eq};
 ghost use Rattle.std.specs.List.{starts_with};
 ghost use Rattle.share_asking.specs.Replies.{goes_on, is_end};

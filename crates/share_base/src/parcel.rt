@@ -13,10 +13,10 @@ use std::marker::Model;
 /// The longest payload that is held in the value itself, in bytes.
 pub const MAX_IN_PLACE: usize = 16;
 
-/// How many bytes the value itself holds.
+/// The number of bytes that the value itself holds.
 const IN_PLACE: usize = HEADER_ROOM + MAX_IN_PLACE;
 
-/// How many bytes the longest frame has.
+/// The length of the longest frame in bytes.
 const LONGEST_FRAME: usize = HEADER_ROOM + MAX_PAYLOAD;
 
 // The bytes of payloads of zeros.
@@ -28,9 +28,9 @@ static ZEROS: [u8; MAX_PAYLOAD] = [0; MAX_PAYLOAD];
 pub struct Body {
     // The room and the payload behind it; the room alone if the payload is zeros.
     bytes: SmallVec<u8, IN_PLACE>,
-    // How many zeros the payload is, and 0 if its bytes are held.
+    // The number of zeros in the payload, and 0 if its bytes are held.
     zeros: u16,
-    // How many bytes of the room are stamped, those next to the payload.
+    // The number of stamped bytes of the room, those next to the payload.
     stamped: u8,
 }
 
@@ -255,7 +255,7 @@ impl Parcel {
         Ok(Parcel { sending, audit })
     }
 
-    /// How many bytes it has: 1 to 9000.
+    /// The length of the payload in bytes: 1 to 9000.
     pub fn len(&self) -> usize
         ensures count { result ≡ length self.now }
         ensures some { 1 ≤ result }

@@ -23,7 +23,7 @@ impl Version {
         }
     }
 
-    /// How many bytes the header of a frame has: 12 or 17.
+    /// The length of the header of a frame in bytes: 12 or 17.
     pub fn header(self) -> usize
         ensures { result ≡ header_length self }
     {

@@ -160,7 +160,7 @@ impl<S: Rates> AuditedEngine<S> {
     }
 }
 
-// How many bytes the line of an event has at most.
+// The greatest length of the line of an event in bytes.
 fn longest_line(kind: TextKind) -> usize
     ensures { result ≡ longest_line kind }
 {

@@ -7,7 +7,7 @@ use share_script::spell;
 use std::alloc::{AllocError, Global};
 use std::marker::Model;
 
-/// How many bytes are spelled at a time.
+/// The number of bytes spelled at a time.
 const PIECE: usize = 512;
 
 /// The lines for packets in the text of a book.
@@ -15,7 +15,7 @@ const PIECE: usize = 512;
 pub enum TextKind {
     /// Their payloads, in hexadecimal: the text is an audit.
     Whole,
-    /// How many bytes their payloads have.
+    /// The lengths of their payloads in bytes.
     Lengths,
 }
 
@@ -72,7 +72,7 @@ impl BookText {
         Ok(())
     }
 
-    /// How many more bytes may wait.
+    /// The number of bytes more that may wait.
     pub fn room(&self) -> usize
         ensures { result ≡ text_room self.now }
     {

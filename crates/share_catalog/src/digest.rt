@@ -8,10 +8,10 @@ ghost use Rattle.hex.specs.Hex.{encode_lower};
 use hex::encode_to_slice;
 use std::marker::Model;
 
-/// How many bytes a digest has.
+/// The length of a digest in bytes.
 const BYTES: usize = 32;
 
-/// How many digits a digest has.
+/// The number of digits that a digest has.
 const DIGITS: usize = 64;
 
 /// A digest, as 64 hexadecimal digits in lower case. A contract sees these digits.

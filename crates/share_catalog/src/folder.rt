@@ -29,7 +29,8 @@ fn larger(one: u64, other: u64) -> u64
     if one < other { other } else { one }
 }
 
-/// How many bytes the whole lines of a text have, with their line feeds. The bytes after them are a line that was cut.
+/// The length of the whole lines of a text in bytes, with their line feeds. The bytes after them are a line that was
+/// cut.
 pub fn whole_lines(text: &[u8]) -> usize
     ensures { IsWholeLines text.now result }
 {

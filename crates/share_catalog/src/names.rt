@@ -8,7 +8,7 @@ use crate::number::value_of;
 use crate::text::ShortText;
 use itoa::Buffer;
 
-/// How many digits the number in a name has at least.
+/// The fewest digits of the number in a name.
 const LEAST_DIGITS: usize = 6;
 
 /// The zeros in front of a short number.

@@ -11,10 +11,10 @@ use crate::text::ShortText;
 use arrayvec::ArrayVec;
 use std::marker::Model;
 
-/// How many tariffs a book has at most.
+/// The most tariffs that a book has.
 pub const MAX_TARIFFS: usize = 8;
 
-/// How many bytes the text of one tariff has at most: three numbers of up to 20 digits, and two slashes.
+/// The greatest length of the text of one tariff in bytes: three numbers of up to 20 digits, and two slashes.
 const LONGEST: usize = 62;
 
 /// The numbers of a tariff. A cell is 1 to 2048 units, an overhead 0 to 1024, and a price 0 to 65535.

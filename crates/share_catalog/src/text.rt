@@ -8,7 +8,7 @@ use std::marker::Model;
 /// The room for one row. The longest has fewer bytes.
 pub(crate) const ROOM: usize = 1024;
 
-/// How many digits the decimal of a number has at most.
+/// The most digits that the decimal of a number has.
 pub(crate) const MAX_DIGITS: usize = 20;
 
 /// A text of at most 1024 bytes, which takes no memory. A contract sees it as its bytes.

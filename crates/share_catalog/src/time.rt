@@ -18,7 +18,7 @@ pub struct Time {
     ghost time_of_day: { is_time_of_day hour minute second ≡ true },
 }
 
-/// How many bytes a time has.
+/// The length of a time in bytes.
 const LENGTH: usize = 20;
 
 impl Time {

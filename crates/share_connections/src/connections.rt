@@ -13,13 +13,13 @@ use std::thread::Threads;
 use std::time::Duration;
 use std::{io, thread};
 
-/// How many rests a reply, or a write call on the uplink, may wait once the end has begun.
+/// The number of rests that a reply, or a write call on the uplink, may wait once the end has begun.
 const GRACE: u64 = 50;
 
-/// How many milliseconds a rest is.
+/// The length of a rest in milliseconds.
 const REST: u64 = 100;
 
-/// How many bytes a connection gives once the end has begun, at most.
+/// The most bytes that a connection gives once the end has begun.
 const LAST_BYTES: usize = 1 << 24;
 
 /// The purpose of a connection.

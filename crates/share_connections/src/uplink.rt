@@ -13,10 +13,10 @@ use std::time::{Clock, Duration, Instant};
 /// How long bytes that the peer sent are read and thrown away, in seconds.
 const AWAY_SECONDS: u64 = 5;
 
-/// How many read calls are made for that, at most.
+/// The most read calls made for that.
 const MOST_READS: u64 = 4096;
 
-/// How many bytes each of them reads, at most.
+/// The most bytes that each of them reads.
 const AWAY: usize = 4096;
 
 /// Stands for no fault, where the system's number of a fault would.
@@ -96,7 +96,7 @@ impl Wire {
         }
     }
 
-    /// How many times a write call began or ended. It is odd during a call.
+    /// The number of times that a write call began or ended. It is odd during a call.
     pub fn steps(&self) -> u64 {
         self.steps.load(Ordering::SeqCst)
     }

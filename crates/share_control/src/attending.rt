@@ -11,7 +11,7 @@ use std::alloc::Global;
 use std::io::{BufWriter, Write};
 use std::sync::Wait;
 
-/// How many bytes of answers wait at most. A report, the longest answer, has at most 6400 bytes.
+/// The most bytes of answers that wait. A report, the longest answer, has at most 6400 bytes.
 const ROOM: usize = 65536;
 
 /// How a control connection ended.

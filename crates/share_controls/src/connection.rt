@@ -14,7 +14,7 @@ use std::marker::Model;
 use std::rc::Rc;
 use std::time::Instant;
 
-/// How many calls on the socket are made at a time.
+/// The number of calls on the socket made at a time.
 const CALLS: u32 = 16;
 
 /// The front of the lines of a connection.

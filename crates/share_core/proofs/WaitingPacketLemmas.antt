@@ -1,4 +1,4 @@
--- How many packets wait, in one buffer and in all.
+-- The number of packets that wait, in one buffer and in all.
 use Rattle.std.proofs.Common.{◌≡◌, ◌+◌, ◌-◌, ◌≤◌, ℕ, Bool, true, false, List, Option, None, Some}
 use Rattle.std.proofs.Common.{arith, true≢false, sym}
 use Rattle.share_model.specs.declared.rates.Rate.{Rate}

@@ -75,7 +75,7 @@ impl<W: Drop, S: Rates + Drop> Engine<W, S> {
 }
 
 impl<W, S: Rates> Engine<W, S> {
-    /// How many events the link makes at most.
+    /// The most events that the link makes.
     pub fn life(&self) -> u64
         ensures { result ≡ self.now.life }
     {
@@ -97,7 +97,7 @@ impl<W, S: Rates> Engine<W, S> {
         self.link.choose(version);
     }
 
-    /// How many events were made, at most the life. A link is sound after whatever events.
+    /// The number of events made, at most the life. A link is sound after whatever events.
     pub fn events(&self) -> u64
         ensures events { result ≡ self.now.live.counts.events }
         ensures life { self.now.life ≤ 2 ^ 24 }

@@ -119,7 +119,7 @@ impl PayloadBuffers {
         }
     }
 
-    /// How many packets a flow's buffer holds; 0 if the flow is not open. It takes no memory.
+    /// The number of packets that a flow's buffer holds; 0 if the flow is not open. It takes no memory.
     pub fn len(&self, flow: FlowNo) -> u32
         ensures { result ≡ count_in self.now flow }
     {

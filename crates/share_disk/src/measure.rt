@@ -7,10 +7,10 @@ use std::fs::File;
 use std::io;
 use std::io::{ErrorKind, Read, Seek, SeekFrom};
 
-/// How many bytes are read at a time.
+/// The number of bytes read at a time.
 const PIECE: usize = 65536;
 
-/// How many bytes the whole lines of a file have, from its beginning on.
+/// The length of the whole lines of a file in bytes, from its beginning on.
 pub(crate) fn whole_length(file: &mut File) -> io::Result<u64> {
     file.seek(SeekFrom::Start(0))?;
     let mut piece = [0u8; PIECE];

@@ -44,7 +44,7 @@ pub(crate) fn end_all(senders: &mut Slab<Sender>, port: Option<usize>) {
     }
 }
 
-/// How many connections came by this port.
+/// The number of connections that came by this port.
 pub(crate) fn count_at(senders: &Slab<Sender>, port: usize) -> usize {
     let mut count: usize = 0;
     'keys: for key in 0..senders.capacity() {

@@ -9,7 +9,7 @@ use share_base::Name;
 use slab::Slab;
 use std::marker::Model;
 
-/// How many packets were given, and how often one was lost. A contract sees both.
+/// The number of packets given, and the number lost. A contract sees both.
 #[derive(Drop)]
 pub(crate) struct Deliveries {
     given: u64,

@@ -17,13 +17,13 @@ use slab::Slab;
 use std::alloc::Global;
 use std::marker::Model;
 
-/// How many packets are taken in one call.
+/// The number of packets taken in one call.
 const PACKETS: u32 = 256;
 
-/// How many packets are read at most that wait in a socket which is removed.
+/// The most packets read that wait in a socket which is removed.
 const WAITING: u32 = 4096;
 
-/// How many connections a port of a tenant has at most at the same time.
+/// The most connections that a port of a tenant has at the same time.
 pub const MAX_SENDERS: usize = 64;
 
 /// The outcome of a call that fills the buffer of a tenant.
@@ -53,10 +53,10 @@ pub struct Door {
     // Whether a connection may be over that was not closed, and whether a port may.
     may_be_over: bool,
     may_have_closed: bool,
-    // How many packets were taken, and how many bytes their payloads have.
+    // The number of packets taken, and the bytes of their payloads.
     packets: u64,
     bytes: u64,
-    // How many were dropped.
+    // The number of packets dropped.
     dropped: u64,
     deliveries: Deliveries,
 }
@@ -146,40 +146,40 @@ impl Door {
         self.flow
     }
 
-    /// How many packets were taken.
+    /// The number of packets taken.
     pub fn packets(&self) -> u64
         ensures { result ≡ self.now.packets }
     {
         self.packets
     }
 
-    /// How many bytes their payloads have.
+    /// The number of bytes of their payloads.
     pub fn bytes(&self) -> u64
         ensures { result ≡ self.now.bytes }
     {
         self.bytes
     }
 
-    /// How many packets were dropped.
+    /// The number of packets dropped.
     pub fn dropped(&self) -> u64
         ensures { result ≡ self.now.dropped }
     {
         self.dropped
     }
 
-    /// How many packets that were delivered its ports and connections lost.
+    /// The number of delivered packets that its ports and connections lost.
     pub fn lost(&self) -> u64
         ensures { result ≡ self.now.lost }
     {
         self.deliveries.lost()
     }
 
-    /// How many connections it has.
+    /// The number of connections that it has.
     pub fn len(&self) -> usize {
         self.senders.len()
     }
 
-    /// How many of them came by this port.
+    /// The number of its connections that came by this port.
     pub fn len_at(&self, port: usize) -> usize {
         count_at(&self.senders, port)
     }
@@ -271,7 +271,7 @@ impl Door {
         Filled::More
     }
 
-    // How many keys ports and connections have at most.
+    // The most keys that ports and connections have.
     fn places(&self) -> usize {
         self.ports
             .capacity()

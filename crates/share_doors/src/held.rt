@@ -13,9 +13,9 @@ use std::marker::Model;
 #[derive(Drop)]
 pub(crate) struct HeldRecords {
     records: Records,
-    // How many bytes were fed and not given yet.
+    // The number of bytes fed and not given yet.
     held: usize,
-    // How many bytes a record has besides its payload.
+    // The number of bytes that a record has besides its payload.
     framing: usize,
 }
 

@@ -14,7 +14,7 @@ use std::marker::Model;
 #[derive(Drop)]
 pub(crate) struct Outgoing {
     record: Vec<u8>,
-    // How many bytes of it the socket has taken.
+    // The number of its bytes that the socket has taken.
     taken: usize,
 }
 

@@ -45,7 +45,7 @@ pub struct PacketPort {
     is_readable: bool,
     // Why nothing more comes of it, if so.
     end: Option<PortEnd>,
-    // How many packets it was given.
+    // The number of packets that it was given.
     given: u64,
 }
 

@@ -8,16 +8,16 @@ use std::alloc::{AllocError, Global};
 use std::io;
 use std::marker::Model;
 
-/// How many bytes of a packet are read: one more than it may have, which shows that it has more.
+/// The most bytes read of a packet: one more than it may have, which shows that it has more.
 const ROOM: usize = MAX_PAYLOAD + 1;
 
 /// Reads packets, and counts them. A contract sees the bytes of the last one, and how many were read.
 #[derive(Drop)]
 pub(crate) struct PacketReader {
     buffer: Vec<u8>,
-    // How many bytes the last packet fills.
+    // The number of bytes that the last packet fills.
     filled: usize,
-    // How many packets were read.
+    // The number of packets read.
     count: u64,
 }
 

@@ -18,13 +18,13 @@ use std::alloc::Global;
 use std::io;
 use std::io::{Error, ErrorKind};
 
-/// How many bytes are read in one call.
+/// The number of bytes read in one call.
 const PIECE: usize = 4096;
 
-/// How many pieces are read for one packet at most: a whole record has at most 9067 bytes.
+/// The most pieces read for one packet: a whole record has at most 9067 bytes.
 const PIECES: u32 = 4;
 
-/// How many calls are made at most to write one record.
+/// The most calls made to write one record.
 const WRITES: u32 = 64;
 
 /// Why a connection is over.
@@ -86,7 +86,7 @@ pub struct Sender {
     // The record that it is being given, and whether it takes more.
     outgoing: Outgoing,
     takes_records: bool,
-    // How many packets it was given.
+    // The number of packets that it was given.
     given: u64,
 }
 

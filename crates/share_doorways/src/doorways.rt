@@ -15,7 +15,7 @@ use std::fs::Files;
 use std::io::{Eprint, ErrorKind};
 use std::time::{Clock, Duration, Instant};
 
-/// How many connections are accepted at a port in a round.
+/// The number of connections accepted at a port in a round.
 const ACCEPTS: u32 = 64;
 
 /// After how many seconds a listener is tried again whose connections cannot be accepted.
@@ -113,7 +113,7 @@ impl Doorways {
         }
     }
 
-    /// How many connections the tenant of a flow has.
+    /// The number of connections that the tenant of a flow has.
     pub fn connections(&self, flow: FlowNo) -> u64 {
         match self.door(flow) {
             Some(door) => door.len() as u64,
@@ -121,7 +121,7 @@ impl Doorways {
         }
     }
 
-    /// How many packets the ports of the tenant of a flow dropped.
+    /// The number of packets that the ports of the tenant of a flow dropped.
     pub fn dropped(&self, flow: FlowNo) -> u64 {
         match self.door(flow) {
             Some(door) => door.dropped(),
@@ -129,7 +129,7 @@ impl Doorways {
         }
     }
 
-    /// How many packets that were delivered they lost.
+    /// The number of delivered packets that they lost.
     pub fn lost(&self, flow: FlowNo) -> u64 {
         match self.door(flow) {
             Some(door) => door.lost(),

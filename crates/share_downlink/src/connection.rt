@@ -15,13 +15,13 @@ use std::alloc::Global;
 use std::io::ErrorKind;
 use std::net::SocketAddr;
 
-/// How many bytes are read in one call.
+/// The number of bytes read in one call.
 const PIECE: usize = 16384;
 
-/// How many pieces are read of a connection in a round.
+/// The number of pieces read of a connection in a round.
 const PIECES: u32 = 16;
 
-/// How many pieces are read for a first frame in a round: it has at most 9017 bytes.
+/// The number of pieces read for a first frame in a round: it has at most 9017 bytes.
 const PIECES_OF_FIRST: u32 = 2;
 
 /// Why a connection is over.

@@ -11,7 +11,7 @@ use share_sockets::{PacketSocket, Received};
 use std::marker::Model;
 use std::net::{IpAddr, SocketAddr};
 
-/// How many datagrams are received in a round.
+/// The number of datagrams received in a round.
 const DATAGRAMS: u32 = 64;
 
 /// The most bytes of a frame, and one more: a datagram of that many is no frame.

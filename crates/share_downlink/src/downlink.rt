@@ -11,7 +11,7 @@ use std::alloc::Global;
 use std::marker::Model;
 use std::net::SocketAddr;
 
-/// How many connections wait for their first frame at most.
+/// The most connections that wait for their first frame.
 pub const MAX_WAITING: usize = 16;
 
 /// The connections of a downlink, the oldest first. The first one is the current one, and gives its packets. If the
@@ -111,7 +111,7 @@ impl Downlink {
         self.end_next(current.saturating_add(1));
     }
 
-    // How many connections wait for their first frame.
+    // The number of connections that wait for their first frame.
     fn waiting(&self) -> usize {
         let open = self
             .connections

@@ -20,7 +20,7 @@ use std::marker::Model;
 #[derive(Drop)]
 pub(crate) struct Incoming {
     frames: Frames,
-    // How many bytes of the stream the frames have that were given, and how many bytes came that were not.
+    // The bytes of the stream that the given frames have, and the bytes that came and were not given.
     offset: u64,
     held: usize,
 }

@@ -16,7 +16,7 @@ use share_model::Backlog;
 use std::alloc::Global;
 use std::marker::Model;
 
-/// How many buffers there is room for at the start. A buffer beyond them takes memory for its place when it is opened.
+/// The number of buffers with room at the start. A buffer beyond them takes memory for its place when it is opened.
 const ROOM: usize = 64;
 
 /// Where the buffer of a flow is, as `find` gave it. It is good while no buffer is opened or closed.
@@ -225,7 +225,8 @@ impl Buffers {
         ring.stamp(header);
     }
 
-    /// How many packets a flow's buffer holds, at most its limit; 0 if the flow is not open. It takes no memory.
+    /// The number of packets that a flow's buffer holds, at most its limit; 0 if the flow is not open. It takes no
+    /// memory.
     pub fn len(&self, flow: FlowNo) -> u32
         ensures count { result ≡ count_in self.now flow }
         ensures limit { IfSome (buffer_of self.now flow) (λ b. result ≤ b.limit) }

@@ -84,7 +84,7 @@ impl Ring {
         self.next
     }
 
-    /// How many packets it holds.
+    /// The number of packets that it holds.
     pub fn count(&self) -> u32
         ensures count { result ≡ length self.now.packets }
         ensures limit { result ≤ self.now.limit }

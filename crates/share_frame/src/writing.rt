@@ -5,10 +5,10 @@ ghost use Rattle.share_model.specs.link.Frame.{header, frame};
 
 use share_base::{FlowNo, HEADER_ROOM};
 
-/// How many bytes a header of version 1 has.
+/// The length of a header of version 1 in bytes.
 pub const HEADER: usize = 12;
 
-/// How many bytes a header of version 2 has. None is longer.
+/// The length of a header of version 2 in bytes. None is longer.
 pub const HEADER2: usize = HEADER_ROOM;
 
 /// The first byte of a frame.

@@ -43,7 +43,7 @@ limits-held name held p was = record {
       ∙ was.funding;
 }
 
--- ---- How many tenants there are
+-- ---- The number of tenants
 
 few_flows : (n : ℕ) (ms : List ℕ) → ascends n ms ≡ true → list_all (λ m. nat_le m 1024) ms ≡ true → n ≤ 1024
     → n + length ms ≤ 1024

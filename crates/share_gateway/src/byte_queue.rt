@@ -49,14 +49,14 @@ impl ByteQueue {
         })
     }
 
-    /// How many bytes are in it.
+    /// The number of bytes in it.
     pub fn len(&self) -> usize
         ensures { result ≡ length self.now.bytes }
     {
         self.bytes.len() - self.start
     }
 
-    /// How many bytes more have room.
+    /// The number of bytes more that have room.
     pub fn room(&self) -> usize
         ensures { result ≡ self.now.most - length self.now.bytes }
     {

@@ -11,7 +11,7 @@ use share_frame::{Field, FrameRead2, HEADER2, read_frame2};
 use std::alloc::Global;
 use std::marker::Model;
 
-/// How many bytes of a stream are kept at most: those of the longest frame, and more.
+/// The most bytes of a stream that are kept: those of the longest frame, and more.
 pub const FRAMES_ROOM: usize = 65536;
 
 /// The front of the bytes of a stream.

@@ -15,21 +15,21 @@ use std::alloc::Global;
 use std::collections::VecDeque;
 use std::marker::Model;
 
-/// How many bytes of frames an outbox holds at most.
+/// The most bytes of frames that an outbox holds.
 pub const OUTBOX: usize = 65536;
 
-/// How many frames an outbox holds at most. That many of version 2 have more bytes than it holds.
+/// The most frames that an outbox holds. That many of version 2 have more bytes than it holds.
 const MAX_FRAMES: usize = 4096;
 
 /// The frames that were scheduled and that the wire has not taken yet, in order. A frame stays until its last byte is
 /// out, so it can begin again. It is a writer that takes a whole frame or none. Its memory is made once.
 pub struct Outbox {
     bytes: ByteQueue,
-    // How many bytes each frame has.
+    // The length of each frame in bytes.
     lengths: VecDeque<u32>,
-    // How many bytes of the first frame are out.
+    // The number of bytes of the first frame that are out.
     out: usize,
-    // How many bytes, from the beginning of the first frame on, may be out.
+    // The number of bytes, from the beginning of the first frame on, that may be out.
     allowed: usize,
 }
 
@@ -84,7 +84,7 @@ impl Outbox {
         })
     }
 
-    /// How many bytes a frame has at most that has room.
+    /// The greatest length of a frame that has room, in bytes.
     pub fn room(&self) -> usize
         ensures { result ≡ room_of self.now }
     {
@@ -95,7 +95,7 @@ impl Outbox {
         }
     }
 
-    /// How many bytes of its frames are not out.
+    /// The number of bytes of its frames that are not out.
     pub fn waiting(&self) -> usize
         ensures { result ≡ length (frame_bytes self.now) - self.now.out }
     {

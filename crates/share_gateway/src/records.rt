@@ -15,7 +15,7 @@ use share_ingress::{FRAMING, Found, first_record};
 use std::alloc::Global;
 use std::marker::Model;
 
-/// How many bytes of a stream are kept at most: those of the longest record, and more.
+/// The most bytes of a stream that are kept: those of the longest record, and more.
 pub const RECORDS_ROOM: usize = 16384;
 
 /// The front of the bytes of a stream.

@@ -20,13 +20,13 @@ use std::alloc::{AllocError, Global};
 use std::marker::Model;
 use std::sync::{Arc, Wait};
 
-/// How many offers a queue holds at most.
+/// The most offers that a queue holds.
 const MAX_CAPACITY: usize = 1024;
 
-/// How many workers a queue has at most.
+/// The most workers that a queue has.
 const MAX_WORKERS: usize = 8;
 
-/// How many offers an end queues at most.
+/// The most offers that an end queues.
 const MAX_OFFERS: u64 = 1 << 40;
 
 /// The answer of an end to an offer.
@@ -82,7 +82,7 @@ pub struct Intake {
     queue: Arc<OfferQueue, Global>,
     token: Counted<Offer, QueueView>,
     workers: u64,
-    // How many offers were popped of each worker.
+    // The number of offers popped of each worker.
     counts: [u64; MAX_WORKERS],
 }
 
@@ -180,7 +180,7 @@ fn another_end(
 }
 
 impl IngressEnd {
-    /// How many offers this end queued.
+    /// The number of offers that this end queued.
     pub fn queued(&self) -> u64
         ensures count { result ≡ length self.now.pushed }
         ensures most { result ≤ 2 ^ 40 }
@@ -217,7 +217,7 @@ impl IngressEnd {
 }
 
 impl Intake {
-    /// How many offers the queue holds at most.
+    /// The most offers that the queue holds.
     pub fn capacity(&self) -> usize
         ensures { result ≡ self.now.capacity }
     {

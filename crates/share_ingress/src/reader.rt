@@ -12,14 +12,14 @@ use share_model::{Ended, Got, TellingReader};
 use std::alloc::{AllocError, Global};
 use std::marker::Model;
 
-/// How many bytes are read in one call, at most.
+/// The most bytes read in one call.
 const CHUNK: usize = 65536;
 
-/// How many bytes the longest record has.
+/// The length of the longest record in bytes.
 const LONGEST: usize = FRAMING + MAX_NAME + MAX_PAYLOAD;
 
-/// How many bytes are kept before a read, at most: a part of a record, and what was given before it, which the buffer
-/// drops once it is no less than the part. So a buffer with room for these and for one read never grows.
+/// The most bytes kept before a read: a part of a record, and what was given before it, which the buffer drops once it
+/// is no less than the part. So a buffer with room for these and for one read never grows.
 const CARRIED: usize = 2 * LONGEST;
 
 /// The answer of a reader.

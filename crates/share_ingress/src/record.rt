@@ -5,7 +5,7 @@ ghost use Rattle.share_ingress.specs.Found.{IsFound};
 
 use share_base::{MAX_NAME, MAX_PAYLOAD, Name};
 
-/// How many bytes a record has besides its name and its payload.
+/// The number of bytes that a record has besides its name and its payload.
 pub const FRAMING: usize = 3;
 
 /// The front of bytes.

@@ -68,7 +68,7 @@ impl Journal {
         })
     }
 
-    /// How many entries it has room for.
+    /// The number of entries that it has room for.
     pub fn life(&self) -> u64
         ensures { result ≡ self.now.life }
     {
@@ -90,7 +90,7 @@ impl Journal {
         self.version = version;
     }
 
-    /// How many entries it holds, at most its life.
+    /// The number of entries that it holds, at most its life.
     pub fn len(&self) -> u64
         ensures count { result ≡ length self.now.entries }
         ensures most { result ≤ self.now.life }

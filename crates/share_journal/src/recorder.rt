@@ -86,7 +86,7 @@ impl<W: TellingWriter, S: Rates> Recorder<W, S> {
         &self.journal
     }
 
-    /// How many events the link makes at most.
+    /// The most events that the link makes.
     pub fn life(&self) -> u64
         ensures { result ≡ self.now.link.life }
     {

@@ -246,7 +246,7 @@ impl Ledger {
         self.tables.add_flow_refusal(name)
     }
 
-    /// How many flows are open, at most 64.
+    /// The number of open flows, at most 64.
     pub fn flow_count(&self) -> usize
         ensures { result ≡ length self.now.flows }
     {

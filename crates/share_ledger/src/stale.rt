@@ -182,7 +182,7 @@ pub(crate) fn revalue(
     moved
 }
 
-/// How many places are looked at together.
+/// The number of places looked at together.
 const STEP: usize = 8;
 
 // Whether no flow of a stretch of places has a funding ticket from a flagged place, or is the flow that changed.

@@ -179,7 +179,7 @@ impl Tables {
         }
     }
 
-    /// How many flows are open.
+    /// The number of open flows.
     pub(crate) fn flow_count(&self) -> usize
         ensures { result ≡ length self.now.flows }
     {

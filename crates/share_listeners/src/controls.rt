@@ -10,10 +10,10 @@ use std::alloc::Global;
 use std::io::{Eprint, ErrorKind};
 use std::time::{Clock, Duration, Instant};
 
-/// How many control connections there are at most at the same time.
+/// The most control connections at the same time.
 const MAX_CONTROLS: usize = 16;
 
-/// How many connections are accepted in a round.
+/// The number of connections accepted in a round.
 const ACCEPTS: u32 = 64;
 
 /// After how many seconds the listener is tried again if connections cannot be accepted.

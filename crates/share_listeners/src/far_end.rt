@@ -14,10 +14,10 @@ use std::io::{Eprint, ErrorKind};
 use std::net::{IpAddr, Net, SocketAddr};
 use std::time::{Clock, Duration, Instant};
 
-/// How many connections are accepted in a round.
+/// The number of connections accepted in a round.
 const ACCEPTS: u32 = 64;
 
-/// How many connections are closed in a round: those that were open before it, and those that were accepted in it.
+/// The number of connections closed in a round: those that were open before it, and those that were accepted in it.
 const CLOSES: u32 = 128;
 
 /// After how many seconds the listener is tried again if connections cannot be accepted.

@@ -8,7 +8,7 @@ use mio::{Interest, Registry, Token};
 /// The descriptor of standard input.
 const INPUT: i32 = 0;
 
-/// How many bytes are read in one call, and how many calls are made in a round.
+/// The number of bytes read in one call, and the number of calls made in a round.
 const PIECE: usize = 4096;
 
 const CALLS: u32 = 16;

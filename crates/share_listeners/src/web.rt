@@ -12,7 +12,7 @@ use std::io::{Eprint, ErrorKind};
 use std::net::SocketAddr;
 use std::time::{Clock, Duration, Instant};
 
-/// How many connections there are at most at the same time. More wait until one ends.
+/// The most connections at the same time. More wait until one ends.
 const MAX_CLIENTS: usize = 32;
 
 /// After how many seconds the listener is tried again if connections cannot be accepted.

@@ -72,7 +72,7 @@ impl Remainders {
         }
     }
 
-    /// How many packets there are.
+    /// The number of packets.
     pub fn packets(&self) -> u64
         ensures { result ≡ min u64.MAX (sum_by (λ (r : Remainder). r.packets) self.now) }
     {

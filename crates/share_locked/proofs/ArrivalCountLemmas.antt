@@ -1,4 +1,4 @@
--- How many arrivals there are among entries.
+-- The number of arrivals among entries.
 use Rattle.std.specs.Prelude.{◌≡◌, ◌&&◌, ℕ, ◌+◌, List, [], ◌∷◌, length, count_by, if◌then◌else◌}
 use Rattle.std.specs.List.{fold}
 use Rattle.std.proofs.Common.{arith}

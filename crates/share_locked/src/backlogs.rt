@@ -3,10 +3,10 @@ use crate::pace::Pace;
 use share_base::FlowNo;
 use share_model::Backlog;
 
-/// How many workers a link has at most.
+/// The most workers that a link has.
 const MAX_WORKERS: usize = 8;
 
-/// How many flows of a worker are known at most.
+/// The most flows of a worker that are known.
 const FLOWS: usize = 8;
 
 /// A worker fills a flow if one of that many of its last offers was for it.
@@ -22,7 +22,7 @@ struct Filled {
 }
 
 impl Filled {
-    // How many packets its buffer takes more.
+    // The number of packets more that its buffer takes.
     fn room(&self) -> u32 {
         self.backlog.limit.saturating_sub(self.backlog.packets)
     }
@@ -231,7 +231,7 @@ impl Backlogs {
         }
     }
 
-    // How many workers fill a flow.
+    // The number of workers that fill a flow.
     fn fillers_of(&self, flow: FlowNo) -> u32 {
         let mut count: u32 = 0;
         for filler in self.fillers.iter().take(self.workers) {
@@ -255,8 +255,8 @@ impl Backlogs {
         ahead.unwrap_or(u64::MAX)
     }
 
-    // How many offers a worker is to hear that it may make, if it is to hear of some. It hears of none before its first
-    // offer, which shows what flow it fills.
+    // The number of offers that a worker is to hear that it may make, if it is to hear of some. It hears of none before
+    // its first offer, which shows what flow it fills.
     fn due(
         &self,
         filler: &Filler,

@@ -24,7 +24,7 @@ use std::alloc::Global;
 use std::marker::{Model, PhantomData};
 use std::sync::Wait;
 
-/// How many clerks a link has at most.
+/// The most clerks that a link has.
 const MAX_CLERKS: u64 = 8;
 
 /// The state behind the lock of a running link: a recorder, the intake of its queue, and how many clerks were made. Its
@@ -102,7 +102,7 @@ impl<W: TellingWriter, S: Rates, L: LinkBrand> Locked<W, S, L> {
         &self.recorder
     }
 
-    /// How many offers the queue holds at most.
+    /// The most offers that the queue holds.
     pub fn capacity(&self) -> usize
         ensures { result ≡ self.now.intake.capacity }
     {

@@ -151,7 +151,7 @@ impl Pace {
         self.ring();
     }
 
-    // How many workers there are.
+    // The number of workers.
     pub(crate) fn workers(&self) -> usize {
         self.workers.len()
     }

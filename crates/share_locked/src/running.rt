@@ -18,7 +18,7 @@ const MOST: u32 = 65535;
 /// After how many rounds in a row with nothing to do a link that nobody wakes begins to rest.
 const EAGER: u32 = 16;
 
-/// How many milliseconds it then rests after each round with nothing to do.
+/// The number of milliseconds that it then rests after each round with nothing to do.
 const REST: u64 = 2;
 
 /// A flag that is set once, and stays set.

@@ -1,4 +1,4 @@
--- How many lines are printed.
+-- The number of lines printed.
 use Rattle.std.specs.Prelude.{ℕ, Bool, true, false, not, ◌&&◌, List, replicate, slice_set, if◌then◌else◌}
 use Rattle.std.specs.List.{slice_index_or}
 use Rattle.share_timing.specs.Limiter.{LimiterView, new_limiter, after_second, printing_of, after_message}

@@ -2,7 +2,7 @@
 ghost use Rattle.std.specs.Prelude.{◌≡◌, ◌<◌};
 ghost use Rattle.share_messages.specs.Kinds.{index_of, is_limited_kind, is_quiet_kind, word_of};
 
-/// How many kinds there are.
+/// The number of kinds.
 pub const KINDS: usize = 17;
 
 /// The subject of a line.

@@ -20,7 +20,7 @@ const NO_REASON: &str = "no memory for the reason";
 /// The outcome of a line.
 #[derive(Clone, Copy, Debug, PartialEq, Eq)]
 pub struct Decision {
-    /// How many lines of its kind were left out before it, and were not reported yet.
+    /// The number of lines of its kind left out before it, and not reported yet.
     pub left_out: u64,
     /// Whether the line is printed.
     pub is_printed: bool,
@@ -99,7 +99,7 @@ impl Messages {
         }
     }
 
-    /// How many lines of a kind were left out, and were not reported yet. The caller reports them, and another second
+    /// The number of lines of a kind left out, and not reported yet. The caller reports them, and another second
     /// begins.
     pub fn take_left_out(&mut self, kind: Kind, second: u64) -> u64
         ensures count { result ≡ (limiter_of kind self.old).left_out }
@@ -168,7 +168,7 @@ impl Messages {
     }
 }
 
-// How many lines a limiter left out. The caller reports them, and another second begins.
+// The number of lines that a limiter left out. The caller reports them, and another second begins.
 fn take_count(limiter: &mut Limiter, second: u64) -> u64
     ensures count { result ≡ limiter.old.left_out }
     ensures after { limiter.new ≡ record { second = (second + 1) % 2 ^ 64; printed = 0; left_out = 0 } }

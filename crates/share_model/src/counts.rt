@@ -24,7 +24,7 @@ impl Model for CodedCounts {
     ghost invariant = { λ counts. Each (λ k. k < 2 ^ 64) (counts_in counts.bytes.items) };
 }
 
-// How many bytes of 255 are in front.
+// The number of bytes of 255 in front.
 fn full_bytes(bytes: &[u8]) -> usize
     ensures { result ≡ prefix_len (λ byte. nat_eq byte 255) bytes.now }
 {

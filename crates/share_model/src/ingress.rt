@@ -43,7 +43,7 @@ pub struct QueueView {
     pub popped: LinkedList<Offer>,
     /// The items in the queue just after the last pop.
     pub ahead: LinkedList<Offer>,
-    /// How many ends were made.
+    /// The number of ends made.
     pub made: u64,
     /// The workers whose ends were joined to the intake.
     pub closed: LinkedList<u64>,

@@ -11,7 +11,7 @@ use std::io::Eprint;
 use std::net::Net;
 use std::time::{Clock, Instant};
 
-/// How many lines of a control connection are obeyed in a round.
+/// The number of lines of a control connection obeyed in a round.
 const LINES: u32 = 64;
 
 impl Reactor<'_> {

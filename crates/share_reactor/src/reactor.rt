@@ -19,13 +19,13 @@ use std::net::Net;
 use std::sync::Wait;
 use std::time::{Clock, Duration, Instant};
 
-/// How many events are reported at a time.
+/// The number of events reported at a time.
 const EVENTS: usize = 256;
 
-/// How many bytes of frames are scheduled in a round, but for the last frame.
+/// The number of bytes of frames scheduled in a round, but for the last frame.
 const ROUND_BYTES: u32 = 1 << 16;
 
-/// How many turns schedule that many bytes if each frame is the shortest one, which has 18.
+/// The number of turns that schedule that many bytes if each frame is the shortest one, which has 18.
 const MAX_TURNS: u32 = ROUND_BYTES / 18 + 1;
 
 /// The work that is left after a round.

@@ -12,7 +12,7 @@ pub(crate) const MAX_TOTALS: usize = 1024;
 /// More bytes than the line of an open flow has.
 pub(crate) const MAX_FLOW: usize = 216;
 
-/// How many places the column of a key has.
+/// The number of places that the column of a key has.
 const KEY: usize = 8;
 
 /// Adds the lines of the totals.

@@ -9,7 +9,7 @@ use std::marker::Model;
 /// The room for a report: whatever its numbers are, it takes less.
 pub(crate) const ROOM: usize = 16384;
 
-/// How many places the widest column has.
+/// The number of places that the widest column has.
 pub(crate) const WIDEST: usize = 26;
 
 /// The spaces that fill the widest column.

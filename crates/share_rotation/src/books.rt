@@ -203,7 +203,7 @@ impl Books {
         self.pace.credit(now);
     }
 
-    /// How many bytes of frames the wire has not taken.
+    /// The number of bytes of frames that the wire has not taken.
     pub fn outbox(&self) -> u64 {
         self.transit.waiting() as u64
     }

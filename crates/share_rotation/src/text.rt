@@ -6,7 +6,7 @@ use std::io;
 use std::sync::Wait;
 use std::time::{Duration, Instant};
 
-/// How many pages of text are given to the disk in a round.
+/// The number of pages of text given to the disk in a round.
 const PAGES: u32 = 16;
 
 /// After how many seconds written text is made durable.
@@ -52,7 +52,7 @@ impl Books {
         }
     }
 
-    /// How many bytes of text were not written.
+    /// The number of bytes of text that were not written.
     pub fn unwritten(&self) -> u64 {
         self.transit.unwritten()
     }

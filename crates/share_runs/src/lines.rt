@@ -6,7 +6,7 @@ use crate::strict::keep;
 use arrayvec::ArrayVec;
 use share_model::{Got, TellingReader};
 
-/// How many bytes of a line are kept.
+/// The number of bytes of a line that are kept.
 const KEPT: usize = 4096;
 
 /// Wraps a reader, and gives one byte a call, so that a run answers each line before it reads from the next. It keeps

@@ -9,7 +9,7 @@ ghost use Rattle.share_runs.specs.Strict.{IsRefusal, EndsNoLine, kept_after};
 use arrayvec::ArrayVec;
 use share_model::{Answer, Fault, TellingWriter, put};
 
-/// How many bytes are kept of the last line of the output. Each refusal is shorter.
+/// The number of bytes kept of the last line of the output. Each refusal is shorter.
 const KEPT: usize = 64;
 
 /// Wraps a writer, and passes on to it the answers to a script up to the line feed of the first refusal. That line feed
@@ -42,7 +42,7 @@ fn is_refusal(line: &[u8], rest: &[u8]) -> bool
     front.as_slice() == b"no ".as_slice()
 }
 
-// How many bytes are before the first line feed.
+// The number of bytes before the first line feed.
 fn line_length(bytes: &[u8]) -> usize
     ensures fits { result ≤ length bytes.now }
     ensures plain { EndsNoLine (take result bytes.now) }

@@ -6,7 +6,7 @@ use share_model::{Got, TellingReader};
 use std::alloc::{AllocError, Global};
 use std::marker::Model;
 
-/// How many bytes are read in one call, at most.
+/// The most bytes read in one call.
 pub(crate) const CHUNK: usize = 65536;
 
 /// The bytes that one read call gave and that were not taken. A contract sees it as these bytes.

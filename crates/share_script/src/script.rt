@@ -23,7 +23,7 @@ use share_model::{Fault, Got, Rates, Tape, TellingReader, TellingWriter};
 use std::alloc::{AllocError, AllocFailed, Global};
 use thiserror::Error;
 
-/// How many read calls a run makes, at most.
+/// The most read calls that a run makes.
 const MAX_READS: u64 = 1 << 32;
 
 /// Why a script was not run to its end.

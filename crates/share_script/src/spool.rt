@@ -10,7 +10,7 @@ use share_text::{MAX_ANSWER, MAX_DIGITS, Text};
 use std::alloc::{AllocError, Global};
 use std::marker::Model;
 
-/// How many bytes wait at most.
+/// The most bytes that wait.
 pub(crate) const SPOOL: usize = 65536;
 
 /// Answers that are put together in one buffer and written together. A contract sees them as their bytes.

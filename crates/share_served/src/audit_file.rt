@@ -7,10 +7,10 @@ use std::fs::{Files, Metadata, OpenFile, OpenOptions};
 use std::io::{BufWriter, Eprint, ErrorKind, Write};
 use std::{fs, io};
 
-/// How many bytes of an audit are written together.
+/// The number of bytes of an audit written together.
 const ROOM: usize = 65536;
 
-/// How many names are tried for the new file.
+/// The number of names tried for the new file.
 const MOST_NAMES: u32 = 1000;
 
 /// Keeps the audit of a journal. `kept` is what contracts know of that.

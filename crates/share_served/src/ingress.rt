@@ -12,7 +12,7 @@ use std::net::TcpStream;
 use std::sync::Wait;
 use std::{io, thread};
 
-/// How many reads and repeated offers a worker may make.
+/// The number of reads and repeated offers that a worker may make.
 const TURNS: u64 = 1 << 40;
 
 /// A reader of an ingress connection. The link hears when its worker has to wait for bytes, and when it waits no

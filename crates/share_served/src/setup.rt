@@ -21,15 +21,15 @@ use std::io::{Eprint, ErrorKind};
 use std::net::{TcpListener, TcpStream};
 use std::sync::Arc;
 
-/// How many places the queue has.
+/// The number of places that the queue has.
 const PLACES: usize = 256;
 
-/// How many connections there are, and how the server behaves.
+/// The number of connections, and the ways in which the server behaves.
 #[derive(Clone, Copy, Debug, PartialEq, Eq)]
 pub struct Plan {
-    /// How many ingress connections are accepted.
+    /// The number of ingress connections accepted.
     pub workers: usize,
-    /// How many control connections are accepted, before those.
+    /// The number of control connections accepted, before those.
     pub clerks: usize,
     /// Whether standard error prints what happens.
     pub is_verbose: bool,

@@ -39,7 +39,7 @@ impl<S: Rates, L: LinkBrand> EndedLink<S, L> {
     }
 }
 
-/// How many entries of each kind a journal has.
+/// The number of entries of each kind in a journal.
 #[derive(Clone, Copy, Debug, PartialEq, Eq)]
 struct EntryCounts {
     commands: u64,

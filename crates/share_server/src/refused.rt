@@ -4,13 +4,13 @@ use share_base::{Outcome, Refusal, Reply};
 use share_journal::{Entry, Source};
 use std::fmt;
 
-/// How many ingress connections a server accepts at most.
+/// The most ingress connections that a server accepts.
 const CONNECTIONS: usize = 8;
 
 /// The refused packets of a connection.
 #[derive(Clone, Copy, Debug)]
 struct Count {
-    // How many there were, and how many were printed.
+    // The number of refusals, and the number printed.
     refused: u64,
     told: u64,
     // Why the last one was refused.

@@ -78,7 +78,7 @@ pub struct Server<S: Rates, L: LinkBrand> {
 }
 
 impl<S: Rates, L: LinkBrand> Server<S, L> {
-    // How many connections of a kind are accepted.
+    // The number of connections of a kind that are accepted.
     fn count(&self, kind: Kind) -> usize {
         match kind {
             Kind::Control => self.clerks.len(),

@@ -58,7 +58,7 @@ pub(crate) fn send(fd: RawFd, bytes: &[u8]) -> io::Result<usize> {
     count_of(unsafe { c::send(fd, bytes, flags) }, bytes)
 }
 
-// How many of these bytes a call moved.
+// The number of these bytes that a call moved.
 fn count_of(moved: isize, bytes: &[u8]) -> io::Result<usize>
     requires { Moved (length bytes.now) moved }
     ensures { IfOk result (λ count. count ≤ length bytes.now) }

@@ -41,9 +41,9 @@ pub struct TenantStatus<'a> {
     /// The worth of its grants.
     pub tickets: u32,
     pub grants: &'a [Grant],
-    /// How many of its packets wait.
+    /// The number of its packets that wait.
     pub waiting: u32,
-    /// How many packets its buffer holds.
+    /// The number of packets that its buffer holds.
     pub limit: u64,
     pub taken_packets: u64,
     pub taken_bytes: u64,
@@ -52,9 +52,9 @@ pub struct TenantStatus<'a> {
     /// Its account in the open book.
     pub amount: u64,
     pub connections: u64,
-    /// How many packets its ports dropped.
+    /// The number of packets that its ports dropped.
     pub dropped: u64,
-    /// How many packets from the downlink its ports lost.
+    /// The number of packets from the downlink that its ports lost.
     pub lost: u64,
 }
 
@@ -72,7 +72,7 @@ pub struct DownlinkStatus {
     pub address: SocketAddr,
     pub frames: u64,
     pub bytes: u64,
-    /// How many frames had the number of no tenant.
+    /// The number of frames that had the number of no tenant.
     pub strangers: u64,
 }
 
@@ -84,9 +84,9 @@ pub struct Status<'a> {
     pub proved: &'a str,
     /// The number of the open book.
     pub book: u64,
-    /// How many events the open book has.
+    /// The number of events that the open book has.
     pub events: u64,
-    /// How many events are left of its life.
+    /// The number of events left of its life.
     pub left: u64,
     /// When the open book was opened.
     pub opened: Time,

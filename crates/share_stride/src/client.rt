@@ -13,7 +13,7 @@ use share_model::{Client, Position};
 /// The scale of strides.
 const STRIDE_SCALE: u64 = 1 << 40;
 
-/// How many units a client is charged per stride.
+/// The number of units that a client is charged per stride.
 const QUANTUM: u128 = 1024;
 
 /// A client that never competed.

@@ -18,7 +18,7 @@ use slab::Slab;
 use std::alloc::{AllocError, Global};
 use std::marker::Model;
 
-/// How many clients a table holds at most.
+/// The most clients that a table holds.
 pub(crate) const MAX_CLIENTS: usize = 64;
 
 #[derive(Clone, Copy, Debug)]
@@ -65,7 +65,7 @@ impl Table {
         Ok(Table { slots, index, heap })
     }
 
-    /// How many clients there are.
+    /// The number of clients.
     pub(crate) fn len(&self) -> usize
         ensures { result ≡ map.len self.now.by_flow }
     {

@@ -1,4 +1,4 @@
--- How many tariffs a shelf has.
+-- The number of tariffs that a shelf has.
 use Rattle.std.specs.Prelude.{ℕ, Bool, ◌&&◌, nat_le}
 
 abbrev pub is_shelf_length : ℕ → Bool

@@ -6,7 +6,7 @@ ghost use Rattle.share_text.specs.Printing.{digits_or_hyphen, out_line};
 
 use share_model::{Fault, TellingWriter, put};
 
-/// How many bytes are spelled in one piece.
+/// The number of bytes spelled in one piece.
 const PIECE: usize = 8192;
 
 /// Prints the line of a link's bytes: `out `, their digits or a hyphen if there are none, and a line feed. If an offer

@@ -9,7 +9,7 @@ ghost use Rattle.share_text.specs.Digits.{value_or_255, DecodesUpTo};
 use share_base::HEADER_ROOM;
 use std::simd::prelude::*;
 
-/// How many bytes are decoded at a time.
+/// The number of bytes decoded at a time.
 const BLOCK: usize = 16;
 
 // The value of a byte as a digit; 255 if it is not one. A compiler takes these tests without a branch, which bytes at

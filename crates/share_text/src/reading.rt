@@ -40,7 +40,7 @@ pub fn read_line(alloc: Global, version: Version, bytes: &[u8]) -> Result<Line, 
     read_bytes(alloc, version, bytes)
 }
 
-/// How many bytes a turn offers at most, if these bytes spell a turn in range. `None` says nothing of them: `read_line`
+/// The most bytes that a turn offers, if these bytes spell a turn in range. `None` says nothing of them: `read_line`
 /// reads any line. A number stays in a register, while a `Line` is copied on its way.
 #[inline(always)]
 pub fn read_turn(bytes: &[u8]) -> Option<u64>

@@ -5,7 +5,7 @@ ghost use Rattle.share_model.specs.text.Texts.{refusal_text, reply_text, turn_te
 use crate::text::Text;
 use share_base::{Outcome, Refusal, Reply, Turn};
 
-/// How many bytes an answer has at most, with its line feed.
+/// The greatest length of an answer in bytes, with its line feed.
 pub const MAX_ANSWER: usize = 128;
 
 /// More bytes than the text of an outcome has.

@@ -10,10 +10,10 @@ use crate::spelling::{
 use crate::text::{ShortText, Text};
 use share_base::{Command, MAX_PAYLOAD, Name};
 
-/// How many bytes the line of a packet has at most, its payload in hexadecimal and the line feed included.
+/// The greatest length of the line of a packet in bytes, its payload in hexadecimal and the line feed included.
 pub const MAX_SEND_LINE: usize = MAX_SPELLED + 1;
 
-/// How many bytes any other line of an event has at most, a packet's whose payload is left out included.
+/// The greatest length of any other line of an event in bytes, a packet's whose payload is left out included.
 pub const MAX_SHORT_LINE: usize = MAX_COMMAND + 1;
 
 /// The line of a packet up to its payload, whose digits and a line feed follow.

@@ -11,13 +11,13 @@ use crate::text::{MAX_DIGITS, ROOM, ShortText, Text};
 use share_base::{Body, Command, Event, MAX_NAME, MAX_PAYLOAD, Name, Version};
 use share_model::Line;
 
-/// How many bytes the spelling of a line has at most: that of a packet for the longest name.
+/// The greatest length of the spelling of a line in bytes: that of a packet for the longest name.
 pub(crate) const MAX_SPELLED: usize = 4 + 1 + MAX_NAME + 1 + 2 * MAX_PAYLOAD;
 
-/// How many bytes of a payload are spelled at a time.
+/// The number of bytes of a payload spelled at a time.
 const PIECE: usize = 512;
 
-/// How many bytes the spelling of a command has at most: that of a flow that is opened.
+/// The greatest length of the spelling of a command in bytes: that of a flow that is opened.
 pub(crate) const MAX_COMMAND: usize = 4 + 1 + MAX_NAME + 2 * (1 + MAX_DIGITS);
 
 /// Adds the spelling of a line to an empty text. The bounds that the types of its fields give are enough for it to be a

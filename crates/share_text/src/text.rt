@@ -8,7 +8,7 @@ use std::marker::Model;
 /// The room for any line or answer. The longest is the line of a packet, with 18022 bytes and a line feed.
 pub(crate) const ROOM: usize = 18432;
 
-/// How many digits the decimal of a number has at most.
+/// The most digits that the decimal of a number has.
 pub const MAX_DIGITS: usize = 20;
 
 /// Text that is put together in a room of `N` bytes.
@@ -16,7 +16,7 @@ pub trait Text {
     /// Its bytes.
     ghost held: { Self → List ℕ };
 
-    /// How many bytes it has room for.
+    /// The number of bytes that it has room for.
     ghost room: { ℕ };
 
     /// Adds a text at the end.

@@ -4,7 +4,7 @@ ghost use Rattle.share_timing.specs.Allowance.{AllowanceView, full_allowance, af
 
 use std::marker::Model;
 
-/// How many bytes may be sent beyond the allowance: those of the longest frame.
+/// The number of bytes that may be sent beyond the allowance: those of the longest frame.
 pub const DEBT: u128 = 9017;
 
 /// For how many nanoseconds an allowance is saved up.

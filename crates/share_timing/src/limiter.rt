@@ -4,7 +4,7 @@ ghost use Rattle.share_timing.specs.Limiter.{new_limiter, printing_of, after_mes
 
 use std::marker::Model;
 
-/// How many messages of a kind are printed in a second.
+/// The number of messages of a kind printed in a second.
 const MOST: u32 = 10;
 
 /// The outcome of a message.

@@ -4,7 +4,7 @@ ghost use Rattle.std.specs.Prelude.{◌≡◌, ◌≤◌, ◌+◌, ◌-◌, ◌+
 use std::alloc::{AllocError, Global};
 use std::marker::Model;
 
-/// How many bytes of text a page has room for.
+/// The number of bytes of text that a page has room for.
 pub const PAGE: usize = 65536;
 
 /// A page of text on its way to the disk. Its memory is made once. A contract sees it as its bytes.
@@ -40,7 +40,7 @@ impl Page {
         self.bytes.as_slice()
     }
 
-    /// How many bytes more have room.
+    /// The number of bytes more that have room.
     pub fn room(&self) -> usize
         ensures room { result ≡ PAGE - length self.now }
         ensures fits { length self.now ≤ PAGE }

@@ -13,7 +13,7 @@ use std::alloc::Global;
 use std::collections::VecDeque;
 use std::marker::Model;
 
-/// How many frames an outbox holds at most.
+/// The most frames that an outbox holds.
 const MAX_FRAMES: usize = 4096;
 
 /// A frame that the disk's progress does not allow on the wire: where the text of its turn ends, counted in bytes of
@@ -30,7 +30,7 @@ pub struct Transit {
     outbox: Outbox,
     // The frames that are not allowed on the wire.
     due: VecDeque<Due>,
-    // How many bytes of text were handed to the disk, and how many of these it has written.
+    // The bytes of text handed to the disk, and those of them that it has written.
     handed: u64,
     written: u64,
 }
@@ -118,7 +118,7 @@ impl Transit {
         while self.allow_first() {}
     }
 
-    /// How many bytes of text were handed to the disk that it has not written.
+    /// The number of bytes of text handed to the disk that it has not written.
     pub fn unwritten(&self) -> u64
         ensures { result ≡ self.now.handed - self.now.written }
     {
@@ -154,14 +154,14 @@ impl Transit {
         self.outbox.again();
     }
 
-    /// How many bytes a frame has at most that has room.
+    /// The greatest length of a frame that has room, in bytes.
     pub fn room(&self) -> usize
         ensures { result ≡ room_of self.now.outbox }
     {
         self.outbox.room()
     }
 
-    /// How many bytes of frames the wire has not taken.
+    /// The number of bytes of frames that the wire has not taken.
     pub fn waiting(&self) -> usize
         ensures { result ≡ length (frame_bytes self.now.outbox) - self.now.outbox.out }
     {

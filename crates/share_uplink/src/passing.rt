@@ -10,10 +10,10 @@ use share_sockets::{Progress, Stream};
 use share_transit::Transit;
 use std::io;
 
-/// How many calls on the socket are made before the rest of the round has its turn.
+/// The number of calls on the socket made before the rest of the round has its turn.
 pub(crate) const CALLS: u32 = 64;
 
-/// How many bytes are read in one call.
+/// The number of bytes read in one call.
 pub(crate) const PIECE: usize = 4096;
 
 /// The readiness of a stream.

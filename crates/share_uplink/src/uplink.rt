@@ -38,16 +38,16 @@ enum Due {
 pub struct Uplink {
     address: SocketAddr,
     transport: Transport,
-    // How many bytes its socket is to hold.
+    // The number of bytes that its socket is to hold.
     buffer: u64,
     state: State,
     redial: Redial,
     // The readiness of the socket.
     ready: Ready,
-    // How many bytes the last connection was given, and all of them.
+    // The number of bytes that the last connection was given, and that of all.
     given: u64,
     sent: u64,
-    // How many bytes may be lost at the near end: by the last loss, and by all.
+    // The number of bytes that may be lost at the near end: by the last loss, and by all.
     lost_at_most: u64,
     lost: u64,
     // Why it was lost or not reached last.
@@ -146,21 +146,21 @@ impl Uplink {
         self.state.summary() == UplinkState::Up
     }
 
-    /// How many bytes the last connection was given.
+    /// The number of bytes that the last connection was given.
     pub fn given(&self) -> u64
         ensures { result ≡ self.now.given }
     {
         self.given
     }
 
-    /// How many bytes all connections were given.
+    /// The number of bytes that all connections were given.
     pub fn sent(&self) -> u64
         ensures { result ≡ self.now.sent }
     {
         self.sent
     }
 
-    /// How many bytes that the last loss was given may have been left in its socket.
+    /// The number of bytes given at the last loss that may have been left in its socket.
     pub fn lost_at_most(&self) -> u64
         ensures { result ≡ self.now.lost_at_most }
     {
@@ -364,7 +364,7 @@ impl Uplink {
     }
 }
 
-// How many bytes a socket may hold. Linux doubles a buffer, and lets a last segment go beyond it.
+// The number of bytes that a socket may hold. Linux doubles a buffer, and lets a last segment go beyond it.
 fn at_risk(given: u64, buffer: u64) -> u64
     ensures { result ≡ min given (2 * buffer + 65536) }
 {
@@ -381,7 +381,7 @@ fn later(now: Instant, milliseconds: u64) -> Instant
     }
 }
 
-// How many milliseconds the whole seconds have that lie between two moments.
+// The whole seconds that lie between two moments, in milliseconds.
 fn milliseconds_between(since: Instant, now: Instant) -> u64
     ensures { result ≡ capped (((instant_nanos now - instant_nanos since) / 1_000_000_000) * 1000) }
 {

@@ -7,7 +7,7 @@ ghost use Rattle.share_web.specs.Fields.{is_same_name, wants_open_metrics};
 
 use httparse::Header;
 
-/// How many fields have this name, in large or small letters.
+/// The number of fields that have this name, in large or small letters.
 pub(crate) fn count_named(name: &[u8], headers: &[Header<'_>]) -> usize
     ensures { result ≡ count_named name.now (map header_parts headers.now) }
 {

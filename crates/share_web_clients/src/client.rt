@@ -12,13 +12,13 @@ use std::alloc::Global;
 use std::marker::Model;
 use std::time::{Duration, Instant};
 
-/// How many calls on the socket are made at a time.
+/// The number of calls on the socket made at a time.
 const CALLS: u32 = 4;
 
-/// How many bytes are read at a time.
+/// The number of bytes read at a time.
 const PIECE: usize = 2048;
 
-/// How many seconds a connection has from its beginning to its end.
+/// The number of seconds that a connection has from its beginning to its end.
 const SECONDS: u64 = 10;
 
 /// How far a connection has come.
@@ -42,7 +42,7 @@ pub struct WebClient {
     stream: Stream,
     head: Head,
     answer: Vec<u8>,
-    // How many bytes of the answer the socket took.
+    // The number of bytes of the answer that the socket took.
     sent: usize,
     // The token that its events carry.
     token: usize,

@@ -28,9 +28,9 @@ pub struct ServeOrders<'a> {
     pub is_forced: bool,
     /// The events of the link's life.
     pub life: u64,
-    /// How many ingress connections are accepted.
+    /// The number of ingress connections accepted.
     pub workers: u64,
-    /// How many control connections are accepted.
+    /// The number of control connections accepted.
     pub clerks: u64,
     /// Whether the end of standard input ends the run.
     pub is_until_eof: bool,

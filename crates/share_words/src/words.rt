@@ -26,7 +26,7 @@ const NOT_TEXT: &str = "invalid UTF-8 was detected in one or more arguments";
 /// The fault of a life out of range.
 const NO_LIFE: &str = "a life is 1 to 16777216 events";
 
-/// How many ingress connections, and how many control connections, a server accepts at most.
+/// The most ingress connections, and the most control connections, that a server accepts.
 const MOST_CONNECTIONS: u64 = 8;
 
 /// The fault of a number of connections out of range.

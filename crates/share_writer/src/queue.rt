@@ -12,10 +12,10 @@ use std::io;
 use std::marker::Model;
 use std::sync::{Arc, Wait};
 
-/// How many pages there are: at most 1 MiB of text waits for the disk.
+/// The number of pages: at most 1 MiB of text waits for the disk.
 pub const PAGES: usize = 16;
 
-/// How many books may wait to be closed while another one begins.
+/// The number of books that may wait to be closed while another one begins.
 pub(crate) const MOST_CLOSES: u64 = 4;
 
 /// The queue from the loop to the two threads that write books. None of its calls waits for the disk.
@@ -28,7 +28,7 @@ pub struct DiskQueue {
     // The pages that the writer has written.
     written_pages: Receiver<EmptyPage>,
     pages: Vec<EmptyPage>,
-    // How many pages are on their way to the disk or back from it.
+    // The number of pages on their way to the disk or back from it.
     away: usize,
     given: u64,
     asked: u64,
@@ -147,14 +147,14 @@ impl DiskQueue {
         }
     }
 
-    /// How many bytes were written, over all books.
+    /// The number of bytes written, over all books.
     pub fn written(&self) -> u64
         ensures { result ≤ self.now.given }
     {
         self.shared.written().min(self.given)
     }
 
-    /// How many bytes were given and are not written.
+    /// The number of bytes given and are not written.
     pub fn waiting(&self) -> u64
         ensures { result ≤ self.now.given }
     {
@@ -228,14 +228,14 @@ impl DiskQueue {
         self.is_over && self.closing() == 0
     }
 
-    /// How many books were closed.
+    /// The number of books closed.
     pub fn closed(&self) -> u64
         ensures { result ≤ self.now.ended }
     {
         self.shared.closed().min(self.ended)
     }
 
-    // How many books are still to be closed.
+    // The number of books still to be closed.
     fn closing(&self) -> u64 {
         self.ended - self.closed()
     }

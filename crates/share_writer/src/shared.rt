@@ -52,9 +52,9 @@ impl ThreadState {
 /// The values that the three threads share.
 #[derive(Drop)]
 pub(crate) struct Shared {
-    // How many bytes were written, over all books.
+    // The number of bytes written, over all books.
     written: AtomicU64,
-    // How many books were closed.
+    // The number of books closed.
     closed: AtomicU64,
     is_abandoned: AtomicBool,
     // Whether a sync was asked for and is not over.

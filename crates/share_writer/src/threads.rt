@@ -18,11 +18,12 @@ use std::sync::{Arc, Wait};
 use std::thread::Threads;
 use std::{io, thread};
 
-/// How many jobs the writer may have at once, so that no send waits: all pages, the closes, a sync and a stop.
+/// The number of jobs that the writer may have at once, so that no send waits: all pages, the closes, a sync and a
+/// stop.
 const WRITER_JOBS: usize = PAGES + MOST_CLOSES as usize + 3;
 
-/// How many jobs the filer may have at once, so that no send waits: the closes, the books to be made durable, a sync
-/// and a stop.
+/// The number of jobs that the filer may have at once, so that no send waits: the closes, the books to be made durable,
+/// a sync and a stop.
 const FILER_JOBS: usize = 2 * MOST_CLOSES as usize + 4;
 
 /// The ends of the channels between the three threads.

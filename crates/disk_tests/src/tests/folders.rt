@@ -8,7 +8,7 @@ use std::process::Abort;
 use std::test::Fail;
 use std::time::{Duration, SystemTime};
 
-/// How many names are tried for a folder.
+/// The number of names tried for a folder.
 const MOST_FOLDERS: u32 = 100000;
 
 /// 2026-01-31T23:59:59Z, in seconds from 1970 on.
@@ -72,7 +72,7 @@ pub(super) fn has_file<R: Files<File = File>>(
     Ok(bytes.as_slice() == named.1.as_bytes())
 }
 
-/// How many files a folder has.
+/// The number of files that a folder has.
 pub(super) fn count_files<R: Files>(rt: &R, alloc: Global, folder: &str) -> Result<u32, Fail> {
     let mut count: u32 = 0;
     for entry in fs::read_dir(&(rt, alloc), folder)? {

@@ -14,7 +14,7 @@ use std::process::Abort;
 use std::test::Fail;
 use std::time::Duration;
 
-/// How many seconds a packet is waited for at most.
+/// The most seconds that a packet is waited for.
 const PATIENCE: u64 = 20;
 
 fn any_port() -> SocketAddr {

@@ -11,7 +11,7 @@ use std::io::Read;
 use std::process::Abort;
 use std::test::Fail;
 
-/// How many packets a connection is given that does not read, and how many bytes each has.
+/// The number of packets given to a connection that does not read, and the length of each in bytes.
 const PACKETS: u64 = 200;
 
 const LENGTH: usize = 9000;

@@ -82,7 +82,7 @@ fn frames(rt: &impl Abort, alloc: Global) -> Frames {
     Frames::new(alloc).ok().expect(rt, "room for frames")
 }
 
-// How many frames are whole, how many bytes their payloads have together, and what comes after them.
+// The number of whole frames, the length of their payloads together in bytes, and what comes after them.
 fn counted(frames: &mut Frames) -> (usize, usize, Ends) {
     let mut bytes: usize = 0;
     for count in 0..100 {

@@ -11,7 +11,7 @@ const FIRST: &[u8] = b"L\x02\x01\0\0\0\x01\0\0\0\0\0\0\0\x01\0\x01a";
 
 const SECOND: &[u8] = b"L\x02\x01\0\0\0\x01\0\0\0\0\0\0\0\x02\0\x01b";
 
-/// How many bytes the longest frame has.
+/// The length of the longest frame in bytes.
 const LONGEST: usize = 9017;
 
 /// A step of an outbox in a test.

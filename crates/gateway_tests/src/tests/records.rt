@@ -43,7 +43,7 @@ fn records(rt: &impl Abort, alloc: Global) -> Records {
         .expect(rt, "room for records")
 }
 
-// How many items are whole, how many bytes their payloads have together, and what comes after them.
+// The number of whole items, the length of their payloads together in bytes, and what comes after them.
 fn counted(records: &mut Records) -> (usize, usize, Ends) {
     let mut bytes: usize = 0;
     for items in 0..100 {

@@ -63,7 +63,7 @@ pub(super) fn one_record(alloc: Global) -> ScriptedReader<'static> {
     ScriptedReader::new(Vec::new(alloc), &RECORD)
 }
 
-/// How many items a reader gives, and how it ends.
+/// The number of items that a reader gives, and how it ends.
 pub(super) fn count<R: TellingReader>(reader: &mut IngressReader<R>) -> (usize, Ended) {
     for items in 0..MANY {
         match reader.next() {

@@ -27,7 +27,7 @@ const STREAMS: [(&str, &[u8], usize, Ended); 11] = [
 /// Two records for the flow a, with the payloads `b` and `cd`.
 const TWO: &[u8] = b"\x01a\x00\x01b\x01a\x00\x02cd";
 
-/// How many of them are whole in front of each byte, and in front of the end.
+/// The number of whole ones in front of each byte, and in front of the end.
 const WHOLE: [usize; 12] = [0, 0, 0, 0, 0, 1, 1, 1, 1, 1, 1, 2];
 
 // Checks how many items a reader of these bytes gives and how it ends, and that it ends so again.

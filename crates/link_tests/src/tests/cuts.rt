@@ -112,7 +112,7 @@ const THEN: [Then; 5] = [
     Then::GoesOn,
 ];
 
-// How many bytes a frame has.
+// The length of a frame in bytes.
 fn length(version: Version, frame: Frame) -> u32 {
     frame.2.saturating_add(version.header() as u32)
 }

@@ -113,7 +113,7 @@ const TORN: &str = "\
 
 const ENDED: &str = "open a 0 1 = no 2 Spent; turn 65535 = no 2 Spent";
 
-/// How many events these rows make.
+/// The number of events that these rows make.
 const SPENT: u64 = 30;
 
 // Calls, readers, the audit, and taking apart.

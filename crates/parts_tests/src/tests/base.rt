@@ -126,7 +126,7 @@ fn is_vector_stamped(vector: Vec<u8>, payload: &[u8]) -> bool {
     shows_all(Body::from_vec(vector), payload)
 }
 
-/// How many zeros make a payload: the bounds, what a value holds, and one byte more.
+/// The number of zeros that make a payload: the bounds, what a value holds, and one byte more.
 const ZEROS: [usize; 5] = [1, 2, 16, 17, 9000];
 
 // The same of a body that `zeros` makes of each of these counts.

@@ -36,7 +36,7 @@ enum Row {
     Framed(u32, &'static [u8]),
     /// The buffer is closed: how many packets it held.
     Close(u32, Option<u32>),
-    /// How many packets it holds and its limit.
+    /// The number of packets that it holds and its limit.
     Shows(u32, Option<(u32, u32)>),
 }
 
@@ -251,7 +251,7 @@ fn packets_are_held_and_take_no_memory(rt: HostRuntime) {
     drop(buffers);
 }
 
-/// How many buffers have places from the start.
+/// The number of buffers that have places from the start.
 const ROOM: u32 = 64;
 
 // Opens the buffer of the next flow while a request of the call is refused. All buffers before it have a packet, and

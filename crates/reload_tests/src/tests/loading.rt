@@ -70,7 +70,7 @@ fn files_are_loaded(rt: HostRuntime) {
     has_fault(&rt, alloc, ("", "bytes", None, "not UTF-8"), bytes);
 }
 
-/// How many names are tried for a file.
+/// The number of names tried for a file.
 const MOST_FILES: u32 = 100000;
 
 // Writes a new file, and answers its path.

@@ -24,7 +24,7 @@ use std::sync::Wait;
 use std::thread::Threads;
 use std::{slice, thread};
 
-/// How many reads and repeated offers a worker makes at most.
+/// The most reads and repeated offers that a worker makes.
 const TURNS: u64 = 1 << 24;
 
 /// The first commands of a link, on which most sessions go on.

@@ -18,7 +18,7 @@ use std::thread;
 use std::thread::{Parker, Threads};
 use std::time::Duration;
 
-/// How many workers there are, how many packets each offers, and how often a flow is held meanwhile.
+/// The number of workers, the packets that each offers, and the times that a flow is held meanwhile.
 const WORKERS: usize = 3;
 
 const PACKETS: u64 = 400;
@@ -44,12 +44,12 @@ const PACKETS_A_READ: u64 = 5;
 
 const READS: u64 = 4;
 
-/// How many packets come one by one, each when the one before it was sent and after up to that many yields.
+/// The number of packets that come one by one, each when the one before it was sent and after up to that many yields.
 const LONE_PACKETS: u64 = 2000;
 
 const YIELDS: u64 = 40;
 
-/// How many milliseconds a run may take.
+/// The number of milliseconds that a run may take.
 const LIMIT: u64 = 40_000;
 
 /// The values that the threads of a run share.
@@ -119,7 +119,7 @@ fn watches<T: Wait, L: LinkBrand>(rt: &T, shared: &Shared<L>) {
     shared.stage.pace.ring();
 }
 
-// How many packets were sent.
+// The number of packets sent.
 fn written<T: Wait, L: LinkBrand>(rt: &T, shared: &Shared<L>) -> u64 {
     shared
         .stage

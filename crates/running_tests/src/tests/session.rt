@@ -18,7 +18,7 @@ use std::sync::Wait;
 use std::thread::Parker;
 use std::time::Duration;
 
-/// How many times, a millisecond apart, a thread looks for an entry.
+/// The number of times, a millisecond apart, that a thread looks for an entry.
 const LOOKS: u64 = 10_000;
 
 /// A session on a link, with what was answered last, as text. It has room for each answer, so that no row takes memory

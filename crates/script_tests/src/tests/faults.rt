@@ -209,8 +209,8 @@ const OF_ONE_READ: [&[u8]; 5] = [
     b"idle\nno 3 Syntax\nout -",
 ];
 
-/// How many bytes of the output are printed before each offer, if the script of one packet is read by the line: one
-/// offer for the answer to each line, and three for the line of the bytes.
+/// The bytes of the output printed before each offer, if the script of one packet is read by the line. The answer to
+/// each line is one offer, and the line of the bytes is three.
 const BEFORE_OFFERS: [usize; 8] = [0, 7, 16, 19, 30, 49, 53, 81];
 
 #[test]

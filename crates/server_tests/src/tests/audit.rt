@@ -16,7 +16,7 @@ const AUDIT: &str = "audit 2\n";
 
 const OLD: &str = "what was there before";
 
-/// How many names are tried for the folder.
+/// The number of names tried for the folder.
 const MOST_FOLDERS: u32 = 10000;
 
 // Makes a new folder.
@@ -213,7 +213,7 @@ const WRITES: [Row; 14] = [
 /// The outcome of an audit that goes out in several calls. Its row is the only one, since it takes long.
 const LONG_WRITES: [Row; 1] = [(&[Taken::Most(5), FULL, FULL], true, false, "audit")];
 
-/// How many commands a journal holds whose audit goes out in several calls: 72008 bytes, of which 65536 go together.
+/// The number of commands in a journal whose audit goes out in several calls: 72008 bytes, of which 65536 go together.
 const LONG: u64 = 9000;
 
 // A journal of commands that each make the currency x.

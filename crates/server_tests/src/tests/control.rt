@@ -251,7 +251,7 @@ struct Pieces<'a> {
     fails: bool,
 }
 
-// How many bytes are before the first bar.
+// The number of bytes before the first bar.
 fn piece_length(bytes: &[u8], most: usize) -> usize
     ensures fits { result ≤ length bytes.now }
     ensures few { result ≤ most }
@@ -334,7 +334,7 @@ fn whole<'a>(bytes: &'a [u8]) -> Asked<'a> {
     }
 }
 
-// How many entries the journal of a link has.
+// The number of entries that the journal of a link has.
 fn entries_of<T: Wait, S: Rates, L: LinkBrand>(rt: &T, port: &Port<Tape, S, L>) -> u64 {
     port.lock(rt).recorder().journal().len()
 }
@@ -602,8 +602,8 @@ fn has_no_place<T: Wait + Abort, S: Rates + Copy>(
     Ok(())
 }
 
-/// How many digits of a packet a line has: those of 1 byte, of as many bytes as a frame of each version carries and of
-/// one more; as many as a line of 20480 bytes has room for; and more than that.
+/// The numbers of digits that a packet has in a line: those of 1 byte, of as many bytes as a frame of each version
+/// carries and of one more; as many as a line of 20480 bytes has room for; and more than that.
 const DIGITS: [usize; 8] = [2, 2980, 2982, 18000, 18002, 20472, 20474, 40000];
 
 // Checks that neither a packet, however long, nor a line of more than 20480 bytes has a place.

@@ -48,12 +48,12 @@ const AUDIT: &str = "audit 2\nopen a 4 1\nmktkt 1 base\nfund 1 flow a\nsend a 61
 
 const AUDIT_BEGINS: &str = "audit 2\nopen a 4 1\nmktkt 1 base\nfund 1 flow a\nsend a 61";
 
-/// How many bytes the report of a link with one flow has, and at which of them it has the state of the link.
+/// The length of the report of a link with one flow in bytes, and the index of the link's state in it.
 const REPORT: usize = 482;
 
 const LINK: usize = 383;
 
-/// How many packets are sent at most until the uplink is torn, and after how many milliseconds each.
+/// The most packets sent until the uplink is torn, and the milliseconds before each.
 const PACKETS: u64 = 2000;
 
 const REST: u64 = 5;

@@ -15,7 +15,7 @@ use std::alloc::{AllocError, Global};
 use std::fmt;
 use std::fmt::{Display, Formatter};
 
-/// How many read calls are made for a line, at most.
+/// The most read calls made for a line.
 const MAX_READS: u64 = 1 << 32;
 
 /// The bill of a book.

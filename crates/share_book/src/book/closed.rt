@@ -64,7 +64,7 @@ impl Closed {
         self.totals
     }
 
-    /// How many packets of a flow wait: after the last of them was carried, how many are dropped.
+    /// The number of packets of a flow that wait. After the last of them was carried, it is the number dropped.
     pub fn waiting(&self, flow: FlowNo) -> u32
         ensures { result ≡ count_in self.now.buffers flow }
     {

@@ -13,7 +13,7 @@ use share_model::Rates;
 use share_script::spelled_command;
 use std::alloc::{AllocError, Global};
 
-/// How many bytes of text have room after those of the opening.
+/// The number of bytes of text that have room after those of the opening.
 pub const TEXT_ROOM: usize = 262144;
 
 impl<S: Rates + Drop> Book<S> {

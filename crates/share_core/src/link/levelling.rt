@@ -60,7 +60,7 @@ pub fn set_active(
     level(queue, ledger, levelled_with);
 }
 
-/// How many places are compared at once.
+/// The number of places compared at once.
 const STEP: usize = 16;
 
 // Whether no tickets of a stretch changed. All of them are compared, without a branch for each.

@@ -18,7 +18,7 @@ use share_base::{FlowNo, Name, Version};
 use share_model::{Backlog, GlobalPart, LinkState, Position, Rates, Row, Totals};
 
 impl<S: Rates> Link<S> {
-    /// How many events it makes at most.
+    /// The most events that it makes.
     pub fn life(&self) -> u64
         ensures { result ≡ self.now.life }
     {
@@ -32,7 +32,7 @@ impl<S: Rates> Link<S> {
         self.version
     }
 
-    /// How many events were made. A link is sound after whatever events.
+    /// The number of events made. A link is sound after whatever events.
     pub fn events(&self) -> u64
         ensures events { result ≡ self.now.live.counts.events }
         ensures life { self.now.life ≤ 2 ^ 24 }
@@ -182,7 +182,7 @@ impl<S: Rates> Link<S> {
     }
 }
 
-// How many packets were torn.
+// The number of torn packets.
 fn torn_count(broken: bool) -> u64
     ensures { result ≡ torn_count broken }
 {

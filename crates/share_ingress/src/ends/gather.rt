@@ -100,7 +100,7 @@ impl Intake {
         true
     }
 
-    // How many offers were popped of a worker.
+    // The number of offers popped of a worker.
     fn count(&self, worker: u64) -> u64
         ensures { result ≡ length (of_worker worker self.now.popped) }
     {
@@ -113,7 +113,7 @@ impl Intake {
         self.counts[(worker - 1) as usize]
     }
 
-    // How many offers were popped of each worker.
+    // The number of offers popped of each worker.
     fn tallies(&self, alloc: Global) -> Result<Vec<u64>, AllocError>
         ensures items { IfOk result (λ t. t.items ≡ tallies_of self.now.workers self.now.popped) }
         ensures total { IfOk result (λ t. sum t.items ≡ length self.now.popped) }

@@ -1,5 +1,5 @@
-//! How many tickets fund a holder, and whether one more would make a cycle or a chain that is too long. The kept
-//! funding tickets show it.
+//! The number of tickets that fund a holder, and whether one more would make a cycle or a chain that is too long. The
+//! kept funding tickets show it.
 ghost use Rattle.std.specs.Prelude.{◌≡◌, ◌≤◌, length, true, false, bytes_eq, [], ◌∷◌, is_some};
 ghost use Rattle.share_base.specs.Refusal.{first_refusal};
 ghost use Rattle.share_base.specs.declared.refusal.Refusal as Refusal;
@@ -17,7 +17,7 @@ use crate::net::Net;
 use share_base::{FlowNo, Name, Refusal};
 
 impl Tables {
-    /// How many tickets fund a currency.
+    /// The number of tickets that fund a currency.
     pub(super) fn count_backing(&self, name: Name, net: &Net) -> usize
         requires known { is_currency self.now name ≡ true }
         requires ticketed { AreBacking self.now net.now }
@@ -27,7 +27,7 @@ impl Tables {
         funding_tickets_at(&net.backing, self.place_of(name)).len()
     }
 
-    /// How many tickets fund an open flow.
+    /// The number of tickets that fund an open flow.
     pub(super) fn count_funding(&self, flow: FlowNo, net: &Net) -> usize
         requires open { 1 ≤ times_open flow self.now.flows }
         requires ticketed { AreTicketed (funds_of self.now) net.now.funding.items }

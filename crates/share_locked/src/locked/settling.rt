@@ -334,7 +334,7 @@ fn are_all<L: LinkBrand>(commands: u64, clerks: &[Clerk<L>]) -> bool
     left == 0
 }
 
-// How many commands there are among entries.
+// The number of commands among entries.
 fn commands_in(entries: &[Entry]) -> u64
     ensures { result ≡ commands_in entries.now }
 {
@@ -353,7 +353,7 @@ fn is_command(entry: &Entry) -> bool
     matches!(entry.event, Event::Commanded(_))
 }
 
-// How many arrivals there are among entries.
+// The number of arrivals among entries.
 fn arrivals_in(entries: &[Entry]) -> u64
     ensures { result ≡ count_by is_arrival entries.now }
 {

@@ -33,7 +33,7 @@ use Rattle.share_model.proofs.lemmas.funding.RefusalLemmas.{not-refused, not_fal
 use Rattle.share_model.proofs.lemmas.funding.ChainLemmas.{IsShort, short-less, less-remove, less-made, less-held}
 use Rattle.share_model.proofs.lemmas.funding.ChainLemmas.{less-changed, short-from_deep}
 
--- How many tickets a holder has
+-- The number of tickets that a holder has
 length-held : (p : Holder → Bool) (n : ℕ) (h : Holder) (k : ℕ) → cond (p h) 1 0 ≤ k → (ts : List Ticket)
     → length (filter (λ (t : Ticket). p t.holder) (with_holder n h ts))
     ≤ length (filter (λ (t : Ticket). p t.holder) ts) + k

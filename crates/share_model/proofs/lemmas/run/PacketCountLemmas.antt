@@ -1,4 +1,4 @@
--- How many packets the buffers hold, as packets come and go and buffers are opened and closed.
+-- The number of packets that the buffers hold, as packets come and go and buffers are opened and closed.
 use Rattle.std.specs.Prelude.{◌≡◌, ◌<◌, ◌≤◌, ◌+◌, ◌-◌, ℕ, suc, Bool, true, false, List, [], ◌∷◌, ◌++◌, length, drop}
 use Rattle.std.specs.Prelude.{find, nat_eq, Option, None, Some, if◌then◌else◌}
 use Rattle.std.proofs.Common.{refl, ap, arith, length-append}

@@ -7,7 +7,7 @@ use std::sync::atomic::{AtomicU64, Ordering};
 /// A record for the flow a, with the payload `b`.
 pub const RECORD: [u8; 5] = *b"\x01a\x00\x01b";
 
-/// How often a reader looks at a word, at most.
+/// The most times that a reader looks at a word.
 const LOOKS: u64 = 1000000000;
 
 /// Gives two records, one a read. Before the second it waits until a word is set, and fails if it never is.

@@ -1,4 +1,4 @@
--- How a service ended, from how the calls ended that it made.
+-- The end of a service, from the ends of the calls that it made.
 use Rattle.std.proofs.Common.{ℕ, Bool, List, Option, sym, true≢false}
 use Rattle.std.specs.Prelude.{Result, Ok, Err, IsOk, IsErr, OnOk, MatchResult}
 use Rattle.share_journal.specs.Entries.{JournalView}

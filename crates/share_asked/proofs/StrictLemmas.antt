@@ -1,4 +1,4 @@
--- How a strict run ended, from how the call ended that ran the script.
+-- The end of a strict run, from the end of the call that ran the script.
 use Rattle.std.proofs.Common.{◌≡◌, ℕ, Bool, false, List}
 use Rattle.std.specs.Prelude.{Result, Ok, Err, IfOk}
 use Rattle.std.specs.declared.process.ExitCode.{ExitCode}

@@ -7,8 +7,8 @@ use Rattle.share_model.specs.declared.writer.Answer.{Answer}
 use Rattle.share_model.specs.io.Calls.{HasRead, Offers, ReadsToEnd}
 use Rattle.share_runs.specs.Strict.{EndsAtRefusal}
 
--- How a strict run ends, by its status. With 0 the script was read to its end, and every offer was accepted. With 1 the
--- output ended at a refusal.
+-- The end of a strict run, by its status. With 0 the script was read to its end, and every offer was accepted. With 1
+-- the output ended at a refusal.
 abbrev pub EndsStrictly : {R W : Type 0} → (R → List ℕ → Got → R → Type 0) → (W → List ℕ → Answer → W → Type 0)
     → (W → Bool) → R → R → W → W → ExitCode → Type 0
 EndsStrictly gives answers mark input rest output after status =

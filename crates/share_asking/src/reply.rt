@@ -9,7 +9,7 @@ const REPORT: &[u8] = b"report";
 /// The last row of a report.
 const END: &[u8] = b"end";
 
-/// How a refusal begins.
+/// The beginning of a refusal.
 const NO: &[u8] = b"no ";
 
 /// Whether a reply that begins with this row is a refusal.

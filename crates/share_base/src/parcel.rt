@@ -170,8 +170,8 @@ fn write_header(bytes: &mut [u8], header: &[u8])
     bytes[HEADER_ROOM - header.len()..HEADER_ROOM].copy_from_slice(header);
 }
 
-/// Where a frame is shown whose payload is zeros, of which a body keeps the count alone. It takes no memory of its own.
-/// A contract sees nothing of it.
+/// A frame whose payload is zeros is shown here. A body keeps the count of the zeros alone. It takes no memory of its
+/// own. A contract sees nothing of it.
 pub struct ZeroFrame {
     // Room for a header, and as many zeros as the longest payload has.
     bytes: [u8; LONGEST_FRAME],

@@ -98,7 +98,7 @@ short_first : (kind : Kind) → length (first_line kind) ≤ 20480
 short_first Whole = omega arith
 short_first Lengths = omega arith
 
--- ---- How long the lines of a book are
+-- ---- The lengths of the lines of a book
 
 after_by : (b : Bool) (bs rest : List ℕ) → (if b then Some (drop 5 bs) else None) ≡ Some rest → drop 5 bs ≡ rest
 after_by true bs rest is = same_Some (drop 5 bs) rest is

@@ -1,4 +1,4 @@
--- How the text of a book is passed, line by line.
+-- The text of a book is passed line by line.
 use Rattle.std.specs.Prelude.{◌≡◌, ◌<◌, ◌≤◌, ◌+◌, ◌⊎◌, ℕ, Bool, true, false, List, [], ◌∷◌, ◌++◌, length, take, drop}
 use Rattle.std.specs.Prelude.{get_or, codes, flat_map, map, nat_lt, Option, None, Some, IfSome, IfOk, IfErr, Result, Ok}
 use Rattle.std.specs.Prelude.{Err, IsErrAnd, MatchResult, if◌then◌else◌}

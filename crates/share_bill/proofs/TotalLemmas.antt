@@ -82,7 +82,7 @@ pub figures-more : (name : List ℕ) (rows : List TenantBill) (row : TenantBill)
 figures-more name [] row sent = refl
 figures-more name (r ∷ rows) row sent = figures-more name rows row (figures_and name sent r)
 
--- Where a tenant stands
+-- The index of a tenant
 
 has_by : (b h : Bool) (i n : ℕ) → h ≡ nat_lt i n
     → (if b then true else h) ≡ nat_lt (if not b then 1 + i else 0) (suc n)

@@ -75,7 +75,7 @@ IsUnstampedLine Torn = Unit {0}
 IsUnstampedLine Report = Unit {0}
 IsUnstampedLine (Audit version) = Unit {0}
 
--- Which event a line is
+-- The event of a line
 
 -- a packet that is taken
 abbrev pub taken_by : List ℕ → BodyView → Reply → Result Event Wrong

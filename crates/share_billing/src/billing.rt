@@ -11,7 +11,7 @@ use std::fs::Files;
 use std::io::{Eprint, Print};
 use std::{fs, io};
 
-/// Which books are billed, and how the bill is printed.
+/// The books that are billed, and the form of the bill.
 #[derive(Clone, Copy, Debug)]
 pub struct Billing<'a, 'b> {
     /// The files of their texts.

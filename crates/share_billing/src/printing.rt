@@ -7,7 +7,7 @@ use itoa::Buffer;
 use share_bill::{Figures, TenantTotal};
 use std::alloc::{AllocError, Global};
 
-/// How a bill is printed.
+/// The form in which a bill is printed.
 #[derive(Clone, Copy, Debug, PartialEq, Eq)]
 pub enum Form {
     /// As a table with a row of sums.

@@ -67,7 +67,7 @@ use Rattle.share_book.proofs.SendLemmas.{sending-new}
 use Rattle.share_book.proofs.TakeLemmas.{accept-is, named_number}
 use Rattle.share_book.proofs.TenantLemmas.{both_true}
 
--- ---- What each call did
+-- ---- The effect of each call
 
 -- a packet that was taken is an event, and there was room for it
 record Took (a : Audited) (name payload : List ℕ) (new : Audited) : Type 0 where

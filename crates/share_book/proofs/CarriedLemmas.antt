@@ -32,7 +32,7 @@ use Rattle.share_book.proofs.LaidOutLemmas.{shelved-pop, laid-accept, packets-ac
 use Rattle.share_book.proofs.TakeLemmas.{accept-is, named_number}
 use Rattle.share_book.proofs.TenantLemmas.{flows-apart}
 
--- ---- Which packets
+-- ---- The packets carried
 
 fitting-is : (kind : TextKind) (room : ℕ) (es : List Event)
     → fitting kind room es ≡ take (length (fitting kind room es)) es

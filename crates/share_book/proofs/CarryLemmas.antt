@@ -383,7 +383,7 @@ module _ (first : Audited) (before : ClosedView) (name : NameBytes) (a : Audited
       → carry_tenant first before name ≡ record { book = a; closed = c; stopped = true }
   part-stops none some = part_end none true (due_some some)
 
--- ---- What the loop over a tenant's packets tests
+-- ---- The test of the loop over a tenant's packets
 
 fewer_list : (ps : List (List ℕ)) → 0 < length ps → length (drop 1 ps) < length ps
 fewer_list [] some = absurd (omega (arith, some))

@@ -114,7 +114,7 @@ tenant_zero : (o : Option TenantView) → flow_by o ≡ or_zero (option_map (λ 
 tenant_zero None = refl
 tenant_zero (Some t) = refl
 
--- ---- What waits
+-- ---- The packets that wait
 
 -- the packets of a tenant that wait in these buffers
 abbrev pub packets_of : PlanView → List Buffer → NameBytes → List (List ℕ)

@@ -177,7 +177,7 @@ module _ (old new : LinkView (Unit {0})) (reply : Reply) (c : Command) (living :
       asked-ran nothing_told old new (Commanded c) reply living command-own
       (command-asked nothing_told old reply new range sound c fields (inr did))
 
--- ---- What holds between calls
+-- ---- The invariant between calls
 
 abbrev pub IsKept : Audited → Type 0
 IsKept a = IsRunAndText a × SendsWhole a.link.live
@@ -233,7 +233,7 @@ pub command-after : (old : Audited) (link : LinkView (Unit {0})) (reply : Reply)
 command-after old link reply c living did =
     ap (λ l. with_link old l (Commanded c)) (command-link old.link link reply c living did)
 
--- ---- What a command's call came to
+-- ---- The result of a command's call
 
 own_memory : (r : Reply) → is_no_memory r ≡ true → answers_event r ≡ true → ⊥
 own_memory (Refused NoMemory) test own = cc

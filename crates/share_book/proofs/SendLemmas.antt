@@ -70,7 +70,7 @@ piece_is : (most : ℕ) (s : Sending) → s.out ≡ 0 → length (frame_of s) �
 piece_is most s new short =
     ap (λ n. take most (drop n (frame_of s))) new ∙ take_all most (frame_of s) short
 
--- ---- What the outbox's answer makes of the link
+-- ---- The link after the outbox's answer
 
 pub record IsWhole (old : LinkView (Unit {0})) (before : OutboxView) (s : Sending) (turn : Turn) (now : Live)
     (after : OutboxView) : Type 0 where
@@ -162,7 +162,7 @@ module _ (old new : LinkView (Unit {0})) (before after : OutboxView) (s : Sendin
         (lent new after)
         in subst P sent-whole.turn_is (turn-ran nothing_told (lent old before) (lent new after) range 9017 turn went)
 
--- ---- What holds between calls
+-- ---- The invariant between calls
 
 whole_whole : (rates : List Rate) (l : Live) (s : Sending) (k : ℕ) → SendsWhole l → SendsWhole (whole rates l s k)
 whole_whole rates l s k was = record { version = was.version; unparted = refl; unbroken = was.unbroken }

@@ -21,7 +21,7 @@ use Rattle.share_gateway.specs.Outbox.{OutboxView}
 use Rattle.share_gateway.specs.Plan.{PlanView, TenantView, IsInLimits}
 use Rattle.share_gateway.specs.PlanChanges.{is_tenant, tenant_flow, with_hold}
 
--- ---- What waits
+-- ---- The packets that wait
 
 -- the payloads of a tenant that wait in a book
 abbrev pub waiting_in : BookView → NameBytes → List (List ℕ)

@@ -30,7 +30,7 @@ abbrev pub longest_line : TextKind → ℕ
 longest_line Whole = 18023
 longest_line Lengths = 64
 
--- ---- What waits to be drained
+-- ---- The text that waits to be drained
 
 -- the bytes that wait, and how many may wait at most
 pub record TextView : Type 0 where

@@ -17,7 +17,7 @@ use Rattle.memchr.specs.Find.{IsFirstByte}
 use Rattle.share_catalog.specs.Pieces.{pieces_of, pieces_left}
 use Rattle.share_catalog.specs.Reads.{IsSpelledByNone, BeginsWithNone}
 
--- Where the first separator cuts
+-- The cut at the first separator
 
 not_true : (b : Bool) → (b ≡ true → ⊥) → b ≡ false
 not_true true h = absurd (h refl)

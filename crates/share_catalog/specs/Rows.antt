@@ -12,7 +12,7 @@ use Rattle.share_catalog.specs.declared.row.Column.TheVariants.{Book, Kind, Open
 use Rattle.share_catalog.specs.declared.row.Column.TheVariants.{Packets}
 use Rattle.share_catalog.specs.declared.row.Column.TheVariants.{Bytes, Units, Amount, Sha256, End}
 
--- Which values a row can have
+-- The values that a row can have
 
 pub record AreTotals (t : Totals) : Type 0 where
   pub events : IsNumber t.events
@@ -27,7 +27,7 @@ pub record IsRow (r : Row) : Type 0 where
   pub totals : AreTotals r.totals
   pub sha256 : IsDigest r.sha256
 
--- How it is spelled
+-- Its spelling
 
 -- the first line, before the rows
 abbrev pub header_text : List ℕ

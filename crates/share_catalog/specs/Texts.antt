@@ -1,4 +1,4 @@
--- How the fields of a row are spelled.
+-- The spelling of the fields of a row.
 use Rattle.std.specs.Prelude.{◌≡◌, ◌<◌, ◌+◌, ◌/◌, ◌%◌, ◌^◌, ◌==◌, ℕ, Bool, true, ◌&&◌, ◌||◌, not, List, [], ◌∷◌, ◌++◌}
 use Rattle.std.specs.Prelude.{length, slice_index, nat_le, codes, decimal, map, if◌then◌else◌}
 use Rattle.std.specs.List.{join_with_byte, list_all}

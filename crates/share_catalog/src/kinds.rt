@@ -3,7 +3,7 @@ ghost use Rattle.std.specs.Prelude.{◌≡◌, ◌≤◌, length};
 ghost use Rattle.share_catalog.specs.Reads.{Reads, Any};
 ghost use Rattle.share_catalog.specs.Texts.{kind_text, closing_text};
 
-/// How a book's text spells its packets.
+/// The way in which a book's text spells its packets.
 #[derive(Clone, Copy, Debug, PartialEq, Eq)]
 pub enum TextKind {
     /// With their payloads.

@@ -10,7 +10,7 @@ use std::sync::atomic::{AtomicI32, AtomicU64, Ordering};
 use std::thread::Parker;
 use std::time::{Clock, Duration, Instant};
 
-/// How long bytes that the peer sent are read and thrown away, in seconds.
+/// The seconds in which bytes that the peer sent are read and thrown away.
 const AWAY_SECONDS: u64 = 5;
 
 /// The most read calls made for that.

@@ -110,8 +110,8 @@ pub record AttendsSome (W : Type 0) {R : Type 0} (left : R → Option (List ℕ)
   pub rest : List ℕ
   pub answered : AnswersLines W connection.ahead clerk asked text rest after
 
--- How the connection ended: its reader gave no more, or failed, after all lines that came whole were answered; or an
--- answer could not be written; or nothing was read.
+-- The end of the connection. If its reader gave no more, or failed, all lines that came whole were answered before. It
+-- also ends if an answer could not be written, or if nothing was read.
 abbrev pub EndsAttending : (W : Type 0) → {R : Type 0} → (R → Option (List ℕ)) → (R → List ℕ → Got → R → Type 0)
     → Connection R → ClerkView → How → ClerkView → Type 0
 EndsAttending W left gives first before End after = AttendsTo W left gives first before EndOfInput after

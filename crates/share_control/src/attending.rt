@@ -14,7 +14,7 @@ use std::sync::Wait;
 /// The most bytes of answers that wait. A report, the longest answer, has at most 6400 bytes.
 const ROOM: usize = 65536;
 
-/// How a control connection ended.
+/// The end of a control connection.
 #[derive(Clone, Copy, Debug, PartialEq, Eq)]
 pub enum How {
     /// Its client ended it.

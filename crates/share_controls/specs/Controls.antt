@@ -86,7 +86,7 @@ FrontsIf false c now answer d = FrontIs c.front c now answer d
 abbrev pub Fronts : ControlView → ℕ → Front → ControlView → Type 0
 Fronts c now answer d = FrontsIf (is_full c) c now answer d
 
--- ---- What is left to do
+-- ---- The work that is left
 
 abbrev pub is_nothing : Front → Bool
 is_nothing Nothing = true

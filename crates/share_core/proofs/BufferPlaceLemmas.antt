@@ -1,4 +1,4 @@
--- Where the buffer and the book of an open flow stand: at the same place, in order of opening.
+-- The buffer and the book of an open flow stand at the same place, in order of opening.
 use Rattle.std.proofs.Common.{◌≡◌, ◌∙◌, ◌+◌, ℕ, List, [], ◌∷◌, map, length, position, cond, not, nat_eq, nat_lt}
 use Rattle.std.proofs.Common.{Option, None, Some, IsSome, refl, sym, ap, subst}
 use Rattle.std.specs.List.{position_or_len}

@@ -1,4 +1,4 @@
--- Where a write goes on.
+-- The place at which a write goes on.
 use Rattle.std.proofs.Common.{◌≡◌, ℕ, ◌+◌, List, length, Option, None, Some, option_map, MatchOption, refl, sym, ◌∙◌}
 use Rattle.std.proofs.Common.{ap, subst}
 use Rattle.share_model.specs.declared.link.Part.{Part}

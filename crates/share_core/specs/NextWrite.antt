@@ -1,4 +1,4 @@
--- Where a write goes on, as the code sees it.
+-- The place at which a write goes on, as the code sees it.
 use Rattle.std.specs.Prelude.{◌≡◌, ◌<◌, ◌≤◌, ℕ, List, length, Option, None, Some, MatchBool}
 use Rattle.share_base.specs.declared.command.Turn.{Turn}
 use Rattle.share_base.specs.declared.command.Turn.TheVariants.{Idle, Broken, Spent}

@@ -169,8 +169,8 @@ impl<W, S: Rates> Engine<W, S> {
         self.link.position(flow)
     }
 
-    /// How full the buffer of an open flow is: the packets that it holds, a torn one included, and its limit. `None` if
-    /// no open flow has this number.
+    /// The backlog of an open flow: the packets that its buffer holds, a torn one included, and its limit. `None` if no
+    /// open flow has this number.
     pub fn backlog(&self, flow: FlowNo) -> Option<Backlog>
         ensures { result ≡ backlog_of self.now.live.buffers flow }
     {

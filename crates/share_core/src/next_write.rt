@@ -1,4 +1,4 @@
-//! Where a write goes on.
+//! The place at which a write goes on.
 
 /// The frame that a write goes on with: the place of its flow's buffer, the sequence number of its packet, the number
 /// of its flow's tariff, how many of its bytes are out, and its length.

@@ -21,7 +21,7 @@ use std::marker::Model;
 #[derive(Drop)]
 pub struct PayloadBuffers {
     buffers: Buffers,
-    // Where frames are shown of payloads that are zeros.
+    // Frames whose payloads are zeros are shown here.
     frame: ZeroFrame,
 }
 
@@ -58,7 +58,7 @@ impl PayloadBuffers {
         self.buffers.open(flow, limit)
     }
 
-    /// Where the buffer of a flow is. `None` if the flow is not open.
+    /// The place of a flow's buffer. `None` if the flow is not open.
     pub(crate) fn find(&self, flow: FlowNo) -> Option<Place>
         ensures { MatchOption result (buffer_of self.now flow ≡ None)
             (λ place. (place.flow ≡ flow) × IsSome (buffer_of self.now flow) × Stands self.now place) }
@@ -126,7 +126,7 @@ impl PayloadBuffers {
         self.buffers.len(flow)
     }
 
-    /// How full a flow's buffer is. `None` if the flow is not open.
+    /// The backlog of a flow's buffer. `None` if the flow is not open.
     pub(crate) fn backlog(&self, flow: FlowNo) -> Option<Backlog>
         ensures { result ≡ backlog_of self.now flow }
     {

@@ -1,4 +1,4 @@
-//! How a book begins.
+//! The beginning of a book.
 ghost use Rattle.std.specs.Prelude.{◌≡◌, [], IfOk};
 ghost use Rattle.share_disk.specs.OpenText.{HasText};
 

@@ -28,7 +28,7 @@ impl From<io::Error> for NotRead {
     }
 }
 
-// What comes next in the file.
+// The kind of the next line of the file.
 #[derive(Clone, Copy, Debug, PartialEq, Eq)]
 enum Line {
     Whole,

@@ -1,4 +1,4 @@
-//! How a book is closed.
+//! The close of a book.
 ghost use Rattle.std.specs.Prelude.{◌≡◌};
 ghost use Rattle.share_disk.specs.Texts.{read_of};
 

@@ -1,4 +1,4 @@
-//! How much of a text is whole, and the digest of a text.
+//! The length of the whole lines of a file, and its digest.
 ghost use Rattle.std.specs.Prelude.{◌≤◌, IfOk};
 
 use sha2::{Digest as Hasher, Sha256};

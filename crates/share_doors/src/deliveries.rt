@@ -33,7 +33,7 @@ impl Deliveries {
         Deliveries { given: 0, lost: 0 }
     }
 
-    /// How often one was lost.
+    /// The number of packets lost.
     pub(crate) fn lost(&self) -> u64
         ensures { result ≡ self.now.lost }
     {

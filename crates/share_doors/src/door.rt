@@ -46,7 +46,7 @@ pub struct Door {
     senders: Slab<Sender>,
     ports: Slab<PacketPort>,
     reader: PacketReader,
-    // Which one is served next: a port by its key, and a connection by its key after those of ports.
+    // The next one served: a port by its key, or a connection by its key after those of ports.
     next: usize,
     // Whether packets may be at hand.
     is_ready: bool,

@@ -407,7 +407,7 @@ impl Doorways {
     }
 }
 
-// Where the door of a flow is noted: flows are numbered from 1.
+// The index of a flow's door: flows are numbered from 1.
 fn place_of(flow: FlowNo) -> usize {
     flow.0.saturating_sub(1) as usize
 }

@@ -1,4 +1,4 @@
-//! How the ports of tenants are opened.
+//! The opening of the ports of tenants.
 
 use crate::doorways::Doorways;
 use crate::ports::{Opened, Opening, Port, PortPlace, open_at};

@@ -1,4 +1,4 @@
--- Where the buffer of a flow is.
+-- The place of a flow's buffer.
 use Rattle.std.specs.Prelude.{◌≡◌, List, map, position, nat_eq, Some}
 use Rattle.std.specs.List.{IsDistinct}
 use Rattle.share_model.specs.link.Buffers.{BufferOf, is_buffer_of}

@@ -19,7 +19,7 @@ use std::marker::Model;
 /// The number of buffers with room at the start. A buffer beyond them takes memory for its place when it is opened.
 const ROOM: usize = 64;
 
-/// Where the buffer of a flow is, as `find` gave it. It is good while no buffer is opened or closed.
+/// The place of a flow's buffer, as `find` gave it. It is good while no buffer is opened or closed.
 #[derive(Clone, Copy, Debug)]
 pub struct Place {
     pub flow: FlowNo,
@@ -80,7 +80,7 @@ impl Buffers {
         Ok(())
     }
 
-    /// Where the buffer of a flow is. `None` if the flow is not open. It takes no memory.
+    /// The place of a flow's buffer. `None` if the flow is not open. It takes no memory.
     pub fn find(&self, flow: FlowNo) -> Option<Place>
         ensures { MatchOption result (buffer_of self.now flow ≡ None)
             (λ place. (place.flow ≡ flow) × IsSome (buffer_of self.now flow) × Stands self.now place) }
@@ -91,7 +91,7 @@ impl Buffers {
         }
     }
 
-    // Where the buffer of an open flow is.
+    // The place of an open flow's buffer.
     fn place(&self, flow: FlowNo) -> Place
         requires { IsSome (buffer_of self.now flow) }
         ensures flow { result.flow ≡ flow }
@@ -237,7 +237,7 @@ impl Buffers {
         }
     }
 
-    /// How full a flow's buffer is. `None` if the flow is not open. It takes no memory.
+    /// The backlog of a flow's buffer. `None` if the flow is not open. It takes no memory.
     pub fn backlog(&self, flow: FlowNo) -> Option<Backlog>
         ensures { result ≡ backlog_of self.now flow }
     {
@@ -275,7 +275,7 @@ impl Buffers {
     }
 }
 
-// Where the ring of a flow is, if there is one. Flows are mostly opened in the order of their numbers. So the first try
+// The place of a flow's ring, if there is one. Flows are mostly opened in the order of their numbers. So the first try
 // is the place that it has if no flow between the first one and it was closed. Then comes a search by halves, and only
 // then each ring in turn.
 fn place_of(rings: &[Ring], flow: FlowNo) -> Option<usize>
@@ -301,7 +301,7 @@ fn stands_at(rings: &[Ring], flow: FlowNo, place: usize) -> bool
     place < rings.len() && rings[place].is_of(flow)
 }
 
-// How far the flow's number is past that of the first ring, and 0 if it is not past it.
+// The distance of the flow's number past that of the first ring, and 0 if it is not past it.
 fn past_first(rings: &[Ring], flow: FlowNo) -> usize
     ensures { MatchOption (slice_get rings.now 0) (result ≡ 0) (λ first. result ≡ flow - first.flow) }
 {
@@ -311,7 +311,7 @@ fn past_first(rings: &[Ring], flow: FlowNo) -> usize
     }
 }
 
-// Where the ring of a flow is, if it is there and the rings are in the order of flow numbers.
+// The place of a flow's ring, if it is there and the rings are in the order of flow numbers.
 fn by_halves(rings: &[Ring], flow: FlowNo) -> usize
     ensures { result ≤ length rings.now }
 {

@@ -63,7 +63,7 @@ impl Ring {
         flow.number() == self.flow.number()
     }
 
-    /// How far a flow's number is past that of its own flow, and 0 if it is not past it.
+    /// The distance of a flow's number past that of its own flow, and 0 if it is not past it.
     pub fn numbers_to(&self, flow: FlowNo) -> u32
         ensures { result ≡ flow - self.now.flow }
     {
@@ -92,7 +92,7 @@ impl Ring {
         self.packets.len() as u32
     }
 
-    /// How full it is.
+    /// Its backlog.
     pub fn backlog(&self) -> Backlog
         ensures { result ≡ backlog_in self.now }
     {

@@ -38,7 +38,7 @@ use Rattle.share_gateway.specs.Opened.{is_book_life, IsOpened, IsNotOpened}
 use Rattle.share_gateway.specs.Making.{answer_to, IsMade, IsNotMade}
 use Rattle.share_gateway.proofs.OpeningLemmas.{length-all_grants, ascends-past, both}
 
--- How long an opening is
+-- The length of an opening
 
 length_flat_map_le : {A B : Type 0} (f : A → List B) (most : ℕ) → ((x : A) → length (f x) ≤ most) → (xs : List A)
     → length (flat_map f xs) ≤ most * length xs

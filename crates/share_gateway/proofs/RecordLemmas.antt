@@ -56,7 +56,7 @@ module _ (name : List ℕ) (first : ℕ) (rest : List ℕ) (n : ℕ) (n_is : n �
             (sym (take-append-drop n rest));
       }
 
--- How long a part of a record is
+-- The length of a part of a record
 
 pub part_short : (bytes : List ℕ) → NeedsMore bytes → length bytes < 9019
 part_short bytes (inl none) = rw none (omega arith)

@@ -1,4 +1,4 @@
--- Which ticket is a grant's: grants are numbered from 1 for each currency and each tenant, and tickets from 1 over all.
+-- The ticket of a grant: grants are numbered from 1 for each currency and each tenant, and tickets from 1 over all.
 use Rattle.std.specs.Prelude.{◌≡◌, ◌≤◌, ℕ, ◌+◌, ◌-◌, Bool, true, ◌&&◌, List, [], ◌∷◌, length, nat_le, slice_get}
 use Rattle.std.specs.Prelude.{bytes_eq, Some}
 use Rattle.std.specs.Prelude.{Result, Ok, Err, if◌then◌else◌}

@@ -25,14 +25,14 @@ struct Group {
     second: Option<PlanCommand>,
 }
 
-// Which flow number is next, and the index of the tenant that has it or the next greater one.
+// The next flow number, and the index of the tenant that has it or the next greater one.
 #[derive(Clone, Copy)]
 struct FlowCursor {
     number: u32,
     tenant: usize,
 }
 
-// Which grant is next: its index among those of a grantee, and the grantee's among all; and the number of its ticket.
+// The next grant: its index among those of a grantee, the grantee's among all, and the number of its ticket.
 #[derive(Clone, Copy)]
 struct GrantCursor {
     grantee: usize,

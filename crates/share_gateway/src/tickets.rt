@@ -1,4 +1,4 @@
-//! Which ticket is a grant's.
+//! The ticket of a grant.
 ghost use Rattle.std.specs.Prelude.{◌≡◌, ◌<◌, ◌+◌, IfOk};
 ghost use Rattle.share_gateway.specs.GrantTickets.{grant_ticket, is_named, ticket_after, IsTicketOf};
 ghost use Rattle.share_gateway.specs.OpeningLeft.{seen};

@@ -3,7 +3,7 @@
 use share_billing::Form;
 use share_settings::Listener;
 
-/// How a gateway is to run.
+/// The orders for the run of a gateway.
 #[derive(Clone, Copy, Debug)]
 pub struct GatewayOrders<'a> {
     /// The file of its settings.
@@ -23,13 +23,13 @@ pub struct GatewayOrders<'a> {
 pub struct AskOrders<'a> {
     /// The address as it was given.
     pub address: &'a str,
-    /// Where the gateway listens for control connections.
+    /// The address or path at which the gateway listens for control connections.
     pub listener: Listener,
     /// The lines, without their line feeds.
     pub lines: Vec<&'a str>,
 }
 
-/// Where the tariffs of books are.
+/// The source of the tariffs of books.
 #[derive(Clone, Copy, Debug)]
 pub enum BillTariffs<'a> {
     /// They are those of a file without tariffs.
@@ -40,7 +40,7 @@ pub enum BillTariffs<'a> {
     OfRows(&'a str),
 }
 
-/// Which books are to be billed.
+/// The books to be billed, their tariffs, and the form of the bill.
 #[derive(Debug, Drop)]
 pub struct BillOrders<'a> {
     /// The files of their texts.

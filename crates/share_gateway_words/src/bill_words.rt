@@ -68,7 +68,7 @@ fn form(bill: &ArgMatches<'_>) -> Form {
     }
 }
 
-// Where the tariffs of the books are.
+// The source of the tariffs of the books.
 fn tariffs<'a>(bill: &ArgMatches<'a>) -> BillTariffs<'a> {
     match (bill.get_str("books"), bill.get_str("plan")) {
         (Some(rows), _) => BillTariffs::OfRows(rows),

@@ -29,7 +29,7 @@ impl<X, K: Known<X>> Model for Handed<X, K> {
     ghost invariant = { λ h. K.is h.item };
 }
 
-/// Where an item is put and taken.
+/// The place at which an item is put and taken.
 pub(crate) type Inbox<X, K> = Mutex<Option<Handed<X, K>>>;
 
 /// Puts an item.

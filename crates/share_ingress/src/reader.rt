@@ -180,7 +180,7 @@ impl<R: TellingReader> IngressReader<R> {
     }
 }
 
-// How a stream ends when there is nothing more to read and these bytes are held.
+// The end of a stream that has nothing more to read while these bytes are held.
 fn end_of_input(held: &[u8]) -> Ended
     requires { NeedsMore held.now }
     ensures { EndsInput held.now result }

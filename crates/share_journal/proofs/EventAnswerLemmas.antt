@@ -1,4 +1,4 @@
--- Which answers are those of an event: all but that the life is spent and that no memory was found.
+-- The answers of events: all but that the life is spent and that no memory was found.
 use Rattle.std.specs.Prelude.{◌≡◌, ◌<◌, ℕ, Bool, true, false, Option, MatchBool, nat_lt}
 use Rattle.std.specs.Prelude.{List, ◌∷◌, []}
 use Rattle.std.proofs.Common.{refl, sym, ap, ◌∙◌, arith, inl, inr}

@@ -68,7 +68,7 @@ impl Journal {
         })
     }
 
-    /// The number of entries that it has room for.
+    /// How many entries it has room for.
     pub fn life(&self) -> u64
         ensures { result ≡ self.now.life }
     {

@@ -1,4 +1,4 @@
-//! Which currencies a currency backs, by however many steps.
+//! The currencies that a currency backs, by however many steps.
 ghost use Rattle.std.specs.Prelude.{◌<◌, ◌≡◌, ◌||◌, ℕ, length, nat_eq};
 ghost use Rattle.std.specs.List.{list_any};
 ghost use Rattle.share_model.specs.lists.Each.{Each};

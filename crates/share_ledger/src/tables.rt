@@ -208,7 +208,8 @@ impl Tables {
         self.flows.values().position(|open| flow == open.number)
     }
 
-    // How far the flow's number is past that of the first flow. That is its place if no flow between them was closed.
+    // The distance of the flow's number past that of the first flow. That is its place if no flow between them was
+    // closed.
     fn flows_past_first(&self, flow: FlowNo) -> usize
         ensures { MatchOption (slice_get self.now.flows 0) (result ≡ 0) (λ first. result ≡ flow - first.1.number) }
     {

@@ -116,7 +116,7 @@ impl FarEnd {
         }
     }
 
-    /// How it stands.
+    /// Its state.
     pub fn status(&self) -> DownlinkStatus {
         let (state, counts) = match &self.way {
             Way::Connections(connections) => {

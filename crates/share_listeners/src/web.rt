@@ -61,7 +61,7 @@ impl Web {
         self.clients.capacity()
     }
 
-    /// How long nothing has to be done, if no source is ready before. `None` is for ever.
+    /// The time in which nothing has to be done, if no source is ready before. `None` is for ever.
     pub fn pause(&self, now: Instant) -> Option<Duration> {
         let mut pause = self.retry.map(|at| at.saturating_duration_since(now));
         for key in 0..self.clients.capacity() {

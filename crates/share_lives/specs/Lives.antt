@@ -47,7 +47,7 @@ pub record LifeView : Type 0 where
 abbrev pub at_stage : Phase → LifeView → LifeView
 at_stage stage l = record l { stage = stage }
 
--- ---- Where a life stands
+-- ---- The state of a life
 
 abbrev pub open_book : Phase → Option BookView
 open_book (Open b) = Some b

@@ -1,4 +1,4 @@
--- Which books are opened, and why one is not.
+-- The books that are opened, and why one is not.
 use Rattle.std.specs.Prelude.{◌≡◌, ◌⊎◌, ℕ, Bool, false, ◌&&◌, List, is_none}
 use Rattle.std.specs.IoError.{error_kind}
 use Rattle.std.specs.declared.io.Error.{Error}

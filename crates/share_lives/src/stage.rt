@@ -1,4 +1,4 @@
-//! Where the life of a book stands.
+//! The state of a book's life.
 ghost use Rattle.std.specs.Prelude.{◌≡◌, ◌+◌, ◌++◌, [], not, nat_lt, length, take, option_map};
 ghost use Rattle.std.specs.Borrow.{sem};
 ghost use Rattle.share_transit.specs.Transit.{handed_count};
@@ -17,7 +17,7 @@ use share_transit::{Page, Transit};
 use std::marker::Model;
 use std::mem;
 
-/// Where the life of a book stands.
+/// The state of a book's life.
 #[derive(Drop)]
 pub(crate) enum Phase {
     Open(Book<PlainShelf>),

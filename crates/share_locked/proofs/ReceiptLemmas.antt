@@ -60,7 +60,7 @@ module _ (receipts : List Receipt) (entries : List Entry) (clerk k : ℕ) (left 
   pub goes_left : rest ≡ [] → left ≢ [] → receipts ≢ receipts_of clerk 0 entries
   goes_left none some is = some (goes.back is ∙ ap (receipts_of clerk k) none)
 
--- Where receipts stand
+-- The places of receipts
 
 at_seam : (before es : List Entry) (e : Entry) → slice_get (before ++ e ∷ es) (length before) ≡ Some e
 at_seam [] es e = refl

@@ -28,7 +28,7 @@ impl Filled {
     }
 }
 
-/// How the flows that a worker fills stand, together.
+/// The state of the flows that a worker fills, together.
 #[derive(Clone, Copy, Debug)]
 struct Standing {
     // The most room that one of them has, and no bound if none is known.
@@ -74,7 +74,7 @@ impl Filler {
         false
     }
 
-    // How the flows that it fills stand.
+    // The state of the flows that it fills.
     fn standing(&self) -> Standing {
         let mut room = None;
         let mut limit = u64::MAX;
@@ -117,7 +117,7 @@ impl Filler {
         }
     }
 
-    // Where this flow is known, or is to be.
+    // The index at which this flow is known, or is to be.
     fn place_of(&self, flow: FlowNo) -> usize {
         let mut place = 0;
         let mut oldest = u64::MAX;
@@ -154,7 +154,7 @@ impl Filler {
     }
 }
 
-// Where the worker of a number, from 1, stands among all.
+// The index of the worker of a number, from 1, among all.
 fn place_of(worker: u64) -> usize {
     (worker as usize).saturating_sub(1)
 }

@@ -156,7 +156,7 @@ impl Pace {
         self.workers.len()
     }
 
-    // How far a worker may be ahead of the link, at most.
+    // The most offers that a worker may be ahead of the link.
     pub(crate) fn most(&self) -> u64 {
         self.most
     }

@@ -107,7 +107,7 @@ fn flow_of_last_arrival<W: TellingWriter, S: Rates, L: LinkBrand, R: Wait>(
     }
 }
 
-// How full the buffer of a flow is.
+// The backlog of a flow's buffer.
 fn backlog_of<W: TellingWriter, S: Rates, L: LinkBrand, R: Wait>(
     rt: &R,
     port: &Port<W, S, L>,

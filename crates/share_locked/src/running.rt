@@ -46,7 +46,7 @@ impl Stop {
     }
 }
 
-/// How a link's service ended.
+/// The end of a link's service.
 #[derive(Clone, Copy, Debug, PartialEq, Eq)]
 pub enum LinkEnd {
     /// It was stopped, the queue was empty, and nothing was left to send.
@@ -70,8 +70,8 @@ enum Round {
     Spent,
 }
 
-/// How a link's service goes on between its calls. The default is that of a link that nobody wakes: it waits for
-/// no packet.
+/// The pacing of a link's service between its calls. The default is that of a link that nobody wakes: it waits for no
+/// packet.
 pub(crate) trait Pacing {
     /// The n-th offer of a worker was taken, with this reply.
     fn admitted<W: TellingWriter, S: Rates, L: LinkBrand, R: Wait>(

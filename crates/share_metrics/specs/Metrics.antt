@@ -16,7 +16,7 @@ use Rattle.share_web.specs.declared.target.Exposition.TheVariants.{Plain, OpenMe
 unfoldable pub number_line : ℕ → List ℕ
 number_line n = decimal n ++ codes "\n"
 
--- ---- What a family is
+-- ---- The parts of a family
 
 -- a counter's samples have a longer name
 abbrev pub sample_suffix : Bool → List ℕ

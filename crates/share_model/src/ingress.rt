@@ -2,7 +2,7 @@
 use share_base::{Name, Parcel};
 use std::collections::LinkedList;
 
-/// How a reader of records ended.
+/// The end of a reader of records.
 #[derive(Clone, Copy, Debug, PartialEq, Eq)]
 pub enum Ended {
     /// The input ended after a whole record, or was empty.

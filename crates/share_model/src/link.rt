@@ -80,7 +80,7 @@ pub struct Row {
     pub waiting: u32,
 }
 
-/// How full the buffer of an open flow is: the packets that it holds, a torn one included, and the most that it holds.
+/// The backlog of an open flow: the packets that its buffer holds, a torn one included, and the most that it holds.
 #[derive(Clone, Copy, Debug, PartialEq, Eq)]
 pub struct Backlog {
     pub packets: u32,

@@ -1,4 +1,4 @@
-//! How bytes are written to a writer that reports what it took.
+//! Writes of bytes to a writer that reports what it took.
 ghost use Rattle.share_model.specs.io.Printing.{WritesText};
 
 use crate::writer::{Answer, TellingWriter};

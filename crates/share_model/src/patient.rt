@@ -2,7 +2,7 @@
 
 use crate::writer::{Answer, TellingWriter};
 
-/// How often a piece is offered again in one call, at most.
+/// The most times that a piece is offered again in one call.
 const MOST_AGAIN: u64 = 1 << 20;
 
 /// Wraps another writer. A call offers its piece to that writer, and again as long as the offer is interrupted, at most

@@ -40,7 +40,7 @@ pub trait TellingWriter {
 #[derive(Drop)]
 pub struct PlainWriter<W>(pub W);
 
-// How a failed write call is reported.
+// The report of a failed write call.
 fn answer_to_error(error: &Error) -> Answer
     ensures interrupted { error_kind error.now ≡ ErrorKind.Interrupted → result ≡ Answer.Interrupted }
     ensures failed { error_kind error.now ≢ ErrorKind.Interrupted → result ≡ Answer.Failed }

@@ -1,4 +1,4 @@
--- Where the first byte of a kind cuts a list.
+-- The cut of a list at the first byte of a kind.
 use Rattle.std.proofs.Common.{◌≡◌, ◌<◌, ◌+◌, ℕ, Bool, true, false, List, [], ◌∷◌, ◌++◌, ◌-◌, ◌≤◌, ◌≢◌, length, take}
 use Rattle.std.proofs.Common.{drop, get_or, suc, Option, None, Some, is_some, not, IsTrue, Bor, arith, sym, ◌∙◌, ap}
 use Rattle.std.proofs.Common.{refl}

@@ -11,7 +11,7 @@ use share_base::Name;
 pub enum Order {
     /// The report of the open book.
     Report,
-    /// How the gateway stands.
+    /// The state of the gateway.
     Status,
     /// Holds a tenant.
     Hold(Name),

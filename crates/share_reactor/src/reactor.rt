@@ -39,7 +39,7 @@ pub(crate) enum Rest {
     Paced,
 }
 
-/// How a gateway ends.
+/// The end of a gateway.
 #[derive(Clone, Copy, Debug)]
 pub struct Options {
     /// For how many seconds what can be sent is sent once the end has begun.
@@ -400,7 +400,7 @@ impl Reactor<'_> {
         remove_file(rt, &self.control_place);
     }
 
-    // How long nothing has to be done, if no source is ready before. `None` is for ever.
+    // The time in which nothing has to be done, if no source is ready before. `None` is for ever.
     fn pause(&self, rest: Rest, now: Instant) -> Option<Duration> {
         let mut pause = match &self.uplink {
             None => None,

@@ -1,4 +1,4 @@
-//! How the file is read anew while a gateway runs.
+//! The file is read anew while a gateway runs.
 
 use crate::reactor::Reactor;
 use share_base::FlowNo;

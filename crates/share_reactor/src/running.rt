@@ -1,4 +1,4 @@
-//! How a gateway is run, from its sockets to what was left.
+//! The run of a gateway, from its sockets to what was left.
 
 use crate::reactor::{Ending, Options, Reactor};
 use crate::start::Ground;

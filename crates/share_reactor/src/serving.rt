@@ -107,7 +107,7 @@ impl Reactor<'_> {
         }
     }
 
-    /// How long nothing has to be done for web connections. `None` is for ever.
+    /// The time in which nothing has to be done for web connections. `None` is for ever.
     pub(crate) fn web_pause(&self, now: Instant) -> Option<Duration> {
         match &self.web {
             None => None,

@@ -1,4 +1,4 @@
-//! How a gateway stands.
+//! The state of a gateway.
 
 use crate::reactor::Reactor;
 use share_base::FlowNo;

@@ -236,7 +236,7 @@ module _ (a : Audited) (text : IsRunAndText a) where
       run-billed Two a.link.life rates text.events text.run.range text.run.may flow b
       (ap (λ (l : Live). find (is_book_of flow) l.books) text.run.ends.live ∙ found))
 
--- ---- What the bill of a text is
+-- ---- The bill of a text
 
 module _ {R : Type 0} (left : R → Option (List ℕ)) (gives : R → List ℕ → Got → R → Type 0) (first : R) (a : Audited)
     (text : IsRunAndText a) (known : left first ≡ Some (whole_text a text)) where

@@ -52,7 +52,7 @@ use Rattle.share_bill.proofs.SeenLemmas.{arrive-seen, frame_length-seen, seen_se
 use Rattle.share_book.specs.BookEvents.{IsBookEvent, IsTaken}
 use Rattle.share_reconciliation.proofs.CleanLemmas.{packet-clean, spelled-clean}
 
--- ---- How an event is spelled
+-- ---- The spelling of an event
 
 abbrev pub packet_line : List ℕ → ℕ → List ℕ
 packet_line flow count = join_with_byte 32 (length_words flow count)
@@ -154,7 +154,7 @@ packet_reads name n is_name some few =
     ∙ (ap packet_by (words_read name n is_name is_number)
     ∙ ap (λ b. if b then Ok (Send name (unstamped (replicate n 0))) else Err Range) range))
 
--- ---- What a line is read as
+-- ---- The reading of a line
 
 module _ {life : ℕ} {rates : List Rate} (l : Live) (sound : Sound life rates l) (version : l.version ≡ Two) where
   spelled_reads : (e : Event) → MayCome l e → reading Two (spelling_of (event_line e)) ≡ Ok (event_line e)

@@ -130,7 +130,7 @@ module _ (a : Audited) (text : IsRunAndText a) (is_whole : a.kind ≡ Whole) whe
         bytes = ap (λ (p : Progress). out p.state) all.state ∙ same.bytes;
       }
 
-  -- ---- What `run_script` comes to
+  -- ---- The result of `run_script`
 
   module _ (before printed left : Option (List ℕ)) (old new : LinkView Told) (longer : a.link.life ≤ old.life)
       (same_rates : old.rates ≡ rates) (fold : IsOneFold before printed old (whole_text a text) left new)

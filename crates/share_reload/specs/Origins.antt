@@ -1,4 +1,4 @@
--- Where a port stands among the ports of all tenants.
+-- The place of a port among the ports of all tenants.
 use Rattle.std.specs.Prelude.{◌≡◌, ◌<◌, ℕ, List, Option, None, Some, slice_get, option_and_then}
 use Rattle.share_settings.specs.Ports.{PortsView}
 use Rattle.share_settings.specs.declared.port.Port.{Port}

@@ -13,7 +13,7 @@ pub struct Numbered {
     pub flow: u32,
 }
 
-/// How a tenant of a plan clashes with one that is known.
+/// The clash of a tenant of a plan with one that is known.
 #[derive(Clone, Copy, Debug, PartialEq, Eq)]
 pub enum Clash {
     /// Another name has the tenant's number.
@@ -59,7 +59,7 @@ impl Numbered {
         is_same_name(self.name, known.name) != (self.flow == known.flow)
     }
 
-    /// How this tenant clashes with one that is known.
+    /// The clash of this tenant with one that is known.
     pub(crate) fn clash_with(&self, known: &Numbered) -> Clash
         ensures { result ≡ clash_of self.now known.now }
     {

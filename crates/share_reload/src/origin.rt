@@ -1,11 +1,11 @@
-//! Where a port was before its file was read again.
+//! The place of a port before its file was read again.
 ghost use Rattle.std.specs.Prelude.{◌≡◌, position};
 ghost use Rattle.share_settings.specs.Same.{same_port};
 ghost use Rattle.share_reload.specs.Origins.{IsOrigin};
 
 use share_settings::{Port, TenantPorts};
 
-/// Where a port stood: its tenant, and its place among the tenant's ports. Both count from 0.
+/// The place that a port had: its tenant, and its index among the tenant's ports. Both count from 0.
 #[derive(Clone, Copy, Debug, PartialEq, Eq)]
 pub struct PortOrigin {
     pub tenant: usize,

@@ -19,7 +19,7 @@ use Rattle.share_model.specs.run.Sound.{Sound}
 use Rattle.share_model.specs.declared.link.FlowLine.{FlowLine}
 use Rattle.share_model.specs.text.Report.{flow_line, flow_shown}
 
--- ---- What the engine knows of a flow
+-- ---- The engine's facts of a flow
 
 pub has_number-at : (es : List (NameBytes × OpenFlow)) (n : ℕ) (e : NameBytes × OpenFlow) → slice_get es n ≡ Some e
     → has_number e.1.number (flow_numbers es) ≡ true

@@ -1,4 +1,4 @@
--- How a line is put together, one field after the other.
+-- A line is put together one field after the other.
 use Rattle.std.proofs.Common.{◌≡◌, ◌∙◌, ℕ, List, [], ◌∷◌, ◌++◌, codes, ap, refl}
 use Rattle.std.specs.List.{join_with_byte}
 use mathlib.Core.List.{append_assoc}

@@ -1,4 +1,4 @@
--- How long lines are.
+-- The lengths of lines.
 use Rattle.std.proofs.Common.{◌≡◌, ◌<◌, ◌≤◌, ◌+◌, ◌-◌, ◌^◌, ℕ, suc, ℤ, pos, negsuc, List, [], ◌∷◌}
 use Rattle.std.proofs.Common.{◌++◌, length, arith, ◌∙◌, lit<, codes}
 use Rattle.std.specs.Prelude.{decimal, unsigned_abs}

@@ -1,4 +1,4 @@
--- Which flows fit the columns of their lines.
+-- The flows that fit the columns of their lines.
 use Rattle.std.specs.Prelude.{◌<◌, ◌≤◌, ◌^◌, length, unsigned_abs}
 use Rattle.share_model.specs.declared.link.FlowLine.{FlowLine}
 

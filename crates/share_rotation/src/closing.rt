@@ -1,4 +1,4 @@
-//! How a book is closed, and the next one begins.
+//! The close of a book, and the beginning of the next one.
 
 use crate::books::Books;
 use crate::moments::{end_of_period, is_past, time_now};

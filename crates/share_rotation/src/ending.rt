@@ -1,4 +1,4 @@
-//! How the last book is closed.
+//! The close of the last book.
 
 use crate::books::Books;
 use crate::moments::time_now;

@@ -46,7 +46,7 @@ impl SentCounts {
     }
 }
 
-// Where the counts of a flow are: flows are numbered from 1.
+// The index of a flow's counts: flows are numbered from 1.
 fn place_of(flow: FlowNo) -> usize {
     flow.0.saturating_sub(1) as usize
 }

@@ -1,4 +1,4 @@
--- How scripts in progress go on, line by line and chunk by chunk, and what is printed of them.
+-- Scripts in progress go on line by line and chunk by chunk, and print their answers.
 use Rattle.std.proofs.Common.{◌≡◌, ◌≤◌, ℕ, Bool, false, List, [], ◌∷◌, ◌++◌, ◌+◌, ◌-◌, length, take, drop, Option}
 use Rattle.std.proofs.Common.{None, Some, arith, sym, ◌∙◌, ap, subst, refl}
 use mathlib.Core.List.{append_assoc}

@@ -1,4 +1,4 @@
--- How a whole run is put together: its reads, its chunks and the last line.
+-- A whole run consists of its reads, its chunks and the last line.
 use Rattle.std.proofs.Common.{◌≡◌, ◌≢◌, ◌<◌, ◌≤◌, inl, inr, ℕ, Bool, true, List, [], ◌∷◌, ◌++◌, length, IfSome, Option}
 use Rattle.std.proofs.Common.{None, Some, arith, sym, ◌∙◌, ap, subst, refl}
 use mathlib.Core.List.{append_assoc}

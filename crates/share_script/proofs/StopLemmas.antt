@@ -1,4 +1,4 @@
--- How the calls of a run follow one another, up to what stopped it.
+-- The calls of a run follow one another, up to what stopped it.
 use Rattle.std.specs.Prelude.{◌≡◌, ℕ, true, List, Result, Err}
 use Rattle.std.specs.Result.{IsErrAnd}
 use Rattle.std.proofs.Common.{sym, subst}

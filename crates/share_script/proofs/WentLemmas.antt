@@ -1,4 +1,4 @@
--- How scripts in progress go on by lines: texts and states, one after the other.
+-- Scripts in progress go on by lines: texts and states, one after the other.
 use Rattle.std.proofs.Common.{◌≡◌, ℕ, Bool, false, List, [], ◌∷◌, ◌++◌, sym, ◌∙◌, ap, subst, refl}
 use mathlib.Core.List.{append_assoc}
 use Rattle.std.proofs.lemmas.List.Elements.{All-append}

@@ -80,7 +80,7 @@ pub record Came {R : Type 0} (left : R → Option (List ℕ)) (gives : R → Lis
   pub ahead : after.ahead ≡ before.ahead ++ came
   pub no_line : after.line ≡ []
 
--- How a connection holds its bytes
+-- The bytes that a connection holds
 
 -- the part of a line that was kept, and the bytes after it; the line is given, or its line feed did not come
 abbrev pub connection : {R : Type 0} → R → List ℕ → List ℕ → Bool → Connection R

@@ -1,4 +1,4 @@
-//! Where the audit of a run goes.
+//! The file that the audit of a run goes into.
 
 use share_journal::Journal;
 use share_model::{PatientWriter, PlainWriter};
@@ -48,8 +48,9 @@ impl<F: Write> Write for NotedFile<F> {
     }
 }
 
-/// Where an audit goes. If the path names a regular file or nothing, the audit goes into a new file beside it, which
-/// takes its name at the end; if no audit is written, it is removed. Otherwise the audit goes into what the path names.
+/// The output of an audit. If the path names a regular file or nothing, the audit goes into a new file beside it, which
+/// takes its name at the end. If no audit is written, that file is removed. If the path names anything else, the audit
+/// goes into that.
 pub struct AuditFile<'a, R: Files> {
     files: &'a R,
     path: &'a str,

@@ -85,7 +85,7 @@ impl Reasons {
     }
 }
 
-/// Which faults a run had.
+/// The faults that a run had.
 #[derive(Clone, Copy, Debug, PartialEq, Eq)]
 pub struct FoundFaults {
     pub accept: bool,

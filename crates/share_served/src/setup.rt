@@ -35,7 +35,7 @@ pub struct Plan {
     pub is_verbose: bool,
 }
 
-/// Where the server listens, and the uplink that is connected.
+/// The listeners of the server, and the uplink that is connected.
 #[derive(Drop)]
 pub struct Sockets {
     pub ingress: TcpListener,
@@ -141,7 +141,7 @@ fn writer_over(alloc: Global, uplink: TcpStream) -> Result<(Arc<Wire>, Uplink), 
     Ok((wire, writer))
 }
 
-// What is wrong if listeners cannot be shared.
+// The fault if listeners cannot be shared.
 fn fault_of_listeners(fault: io::Error) -> RunFault
     ensures memory { error_kind fault ≡ ErrorKind.OutOfMemory → result ≡ bare ServeFault.NoMemory }
     ensures others { error_kind fault ≢ ErrorKind.OutOfMemory → result.kind ≡ ServeFault.Accept }

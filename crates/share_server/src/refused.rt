@@ -42,7 +42,7 @@ impl fmt::Display for RefusedLine {
     }
 }
 
-// Which connection brought a packet that was refused, counted from 1, and why.
+// The connection, counted from 1, that brought a refused packet, and the reason.
 fn refusal_in(entry: &Entry) -> Option<(u64, Refusal)> {
     match (&entry.source, &entry.reply) {
         (Source::Worker(worker), Outcome::Replied(Reply::Refused(refusal))) => {

@@ -1,4 +1,4 @@
-//! Where packets, frames and control lines come in and go out.
+//! The addresses of packets, frames and control lines.
 ghost use Rattle.std.specs.Prelude.{◌≡◌, IfOk};
 ghost use Rattle.share_settings.specs.Same.{same_address, same_v4, same_v6, same_text, same_port, peer_port};
 ghost use Rattle.share_settings.specs.Same.{listener_port};
@@ -8,7 +8,7 @@ use std::alloc::{AllocError, Global};
 use std::marker::Model;
 use std::net::{SocketAddr, SocketAddrV4, SocketAddrV6};
 
-/// Where frames go to, or come from.
+/// The address that frames go to, or come from.
 #[derive(Clone, Copy, Debug)]
 pub enum Peer {
     Tcp(SocketAddr),
@@ -16,7 +16,7 @@ pub enum Peer {
     Udp(SocketAddr),
 }
 
-/// Where control lines come in.
+/// The address or path at which control lines come in.
 #[derive(Debug, Drop)]
 pub enum Listener {
     Tcp(SocketAddr),
@@ -24,7 +24,7 @@ pub enum Listener {
     Unix(Text),
 }
 
-/// Where packets of one tenant come in, and go out at the far end.
+/// The port at which packets of one tenant come in, and go out at the far end.
 #[derive(Debug, Drop)]
 pub enum Port {
     /// A listener of record connections.

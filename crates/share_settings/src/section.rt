@@ -3,7 +3,7 @@ use crate::port::{Listener, Peer};
 use crate::text::Text;
 use std::net::{IpAddr, SocketAddr};
 
-/// Where frames go to.
+/// The uplink that frames go to.
 #[derive(Clone, Copy, Debug)]
 pub struct Uplink {
     pub to: Peer,
@@ -22,7 +22,7 @@ pub enum BookText {
     Whole,
 }
 
-/// Where the books go to.
+/// The folder of the books, their text and their bounds.
 #[derive(Debug, Drop)]
 pub struct Books {
     pub folder: Text,
@@ -33,7 +33,7 @@ pub struct Books {
     pub period: Option<u64>,
 }
 
-/// Where control lines come in.
+/// The listener at which control lines come in.
 #[derive(Debug, Drop)]
 pub struct Control {
     pub listen: Listener,
@@ -41,7 +41,7 @@ pub struct Control {
     pub mode: u32,
 }
 
-/// Where the frames of another gateway come in.
+/// The listener at which the frames of another gateway come in.
 #[derive(Clone, Copy, Debug)]
 pub struct Downlink {
     pub listen: Peer,

@@ -1,4 +1,4 @@
--- Which errors of a call that does not wait are failures.
+-- The errors that are failures of a call that does not wait.
 use Rattle.std.specs.Prelude.{◌≢◌}
 use Rattle.std.specs.IoError.{error_kind}
 use Rattle.std.specs.declared.io.Error.{Error}

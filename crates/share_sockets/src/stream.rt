@@ -13,7 +13,7 @@ use std::net::{Net, Shutdown, SocketAddr};
 use std::os::fd::{AsRawFd, RawFd};
 use std::rc::Rc;
 
-/// How often a call is made that a signal interrupts.
+/// The most times that a call is made that a signal interrupts.
 const ATTEMPTS: u32 = 8;
 
 /// A stream whose calls do not wait.

@@ -1,4 +1,4 @@
-//! How the file of a gateway spells rates, times, modes, paths and addresses.
+//! The spelling of rates, times, modes, paths and addresses in the file of a gateway.
 #![tactic(auto)]
 
 mod address;

@@ -1,4 +1,4 @@
-//! How a gateway stands.
+//! The state of a gateway.
 
 use share_base::Name;
 use share_catalog::Time;
@@ -12,7 +12,7 @@ pub enum UplinkState {
     Dialling,
 }
 
-/// How the uplink stands. Its numbers count bytes.
+/// The state of the uplink. Its numbers count bytes.
 #[derive(Clone, Copy, Debug)]
 pub struct UplinkStatus {
     pub state: UplinkState,
@@ -25,14 +25,14 @@ pub struct UplinkStatus {
     pub lost: u64,
 }
 
-/// How the disk stands: how many bytes of text wait for it, and why it fails, if it does.
+/// The state of the disk: the bytes of text that wait for it, and why it fails, if it does.
 #[derive(Clone, Copy, Debug)]
 pub struct DiskStatus<'a> {
     pub waiting: u64,
     pub fault: Option<&'a str>,
 }
 
-/// How a tenant stands.
+/// The state of a tenant.
 #[derive(Clone, Copy, Debug)]
 pub struct TenantStatus<'a> {
     pub name: Name,
@@ -65,7 +65,7 @@ pub enum DownlinkState {
     Listening,
 }
 
-/// How the downlink stands.
+/// The state of the downlink.
 #[derive(Clone, Copy, Debug)]
 pub struct DownlinkStatus {
     pub state: DownlinkState,
@@ -76,7 +76,7 @@ pub struct DownlinkStatus {
     pub strangers: u64,
 }
 
-/// How a gateway stands.
+/// The state of a gateway.
 #[derive(Clone, Copy, Debug)]
 pub struct Status<'a> {
     pub version: &'a str,

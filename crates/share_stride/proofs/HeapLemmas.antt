@@ -14,7 +14,7 @@ use Rattle.share_stride.proofs.HeapOrderLemmas.{IsOpen-from, IsOrdered-from, fir
 use Rattle.share_stride.proofs.SeatingLemmas.{standing_at-in, standing_at-out, KeepsOthers-trans}
 use Rattle.share_stride.proofs.SeatLemmas.{IsLifted-lift, KeepsOthers-less, KeepsOthers-more}
 
--- ---- What stands under a key
+-- ---- The entry under a key
 
 under_is : (count : ℕ) (entries : List HeapEntry) (seats : List ℕ) (key : ℕ) → key < length seats
     → standing_under (standings_of count entries seats) key ≡ standing_of count entries seats key
@@ -268,7 +268,7 @@ module _ (all count : ℕ) (es : List HeapEntry) (ss : List ℕ) (key : ℕ) (co
         (record { as_many = resifts.kept.as_many; kept = λ k lt _. resifts.kept.kept k lt })))
         (leaving_in.0) left_out
 
--- ---- What is first
+-- ---- The first entry
 
 pub IsFirstStanding-none : (entries : List HeapEntry) (seats : List ℕ) → IsSeated entries seats
     → IsFirstStanding (standings_of 0 entries seats) None

@@ -24,7 +24,7 @@ LacksBefore l f i = (j : ℕ) → j < i → flow_at l j ≢ f
 abbrev pub LacksAfter : Pairs → ℕ → ℕ → Type 0
 LacksAfter l f i = (j : ℕ) → i < j → j < length l → flow_at l j ≢ f
 
--- ---- What is found
+-- ---- The results of searches
 
 LacksBefore-rest : (x : ℕ × ℕ) (l : Pairs) (f i : ℕ) → LacksBefore (x ∷ l) f (suc i) → LacksBefore l f i
 LacksBefore-rest x l f i lacks j lt = lacks (suc j) (omega arith)

@@ -104,7 +104,7 @@ IsInStep-removed tickets s f kept there idle = record {
   sound = IsSound-remove s f kept.sound;
 }
 
--- ---- What fits the types
+-- ---- Numbers fit the types
 
 pub stride_is : (s : Stride) (f : ℕ) (c : Client) → IsSound s → Some c ≡ get s.clients f
     → c.stride ≡ stride_of c.tickets

@@ -91,7 +91,7 @@ pub record IsLifted (entries : List HeapEntry) (seats : List ℕ) (hole key : �
   pub other_seat : (k : ℕ) → k < length entries → k ≢ key → seat_of seats k ≢ hole
   pub key_is : (k : ℕ) → k < length entries → k ≢ key → (entry_in_seat entries (seat_of seats k)).key ≡ k
 
--- ---- Which entries are in the heap
+-- ---- The entries in the heap
 
 -- the entry of a seat, if the seat is one of the heap
 abbrev pub standing_at : ℕ → List HeapEntry → ℕ → Option HeapEntry

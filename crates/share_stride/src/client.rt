@@ -1,4 +1,4 @@
-//! How a move changes one client.
+//! A move changes one client.
 ghost use Rattle.std.specs.Prelude.{◌≡◌, ◌*◌, ◌/◌, ◌^◌, ◌<◌, ◌≤◌, pos, ◌-ℤ◌};
 ghost use Rattle.share_model.specs.stride.Moves.{stride_of, new_client as model_new_client};
 ghost use Rattle.share_model.specs.stride.Moves.{remain_on as model_remain_on};

@@ -78,8 +78,8 @@ impl Index {
     }
 }
 
-// Where the pair of a flow is, or where it would go. If no flow between the first one and it was removed, its place is
-// how far its number is past the first. So that place is tried before the search.
+// The place of a flow's pair, or the one that it would have. If no flow between the first one and it was removed, its
+// place is how far its number is past the first. So that place is tried before the search.
 fn place_of(pairs: &[(FlowNo, usize)], flow: FlowNo) -> Result<usize, usize>
     requires { IsRising pairs.now }
     ensures found { IfOk result (IsAt pairs.now flow) }
@@ -92,7 +92,7 @@ fn place_of(pairs: &[(FlowNo, usize)], flow: FlowNo) -> Result<usize, usize>
     pairs.binary_search_by_key(&flow, |pair| pair.0)
 }
 
-// How far the number of a flow is past that of the first pair, and 0 if it is not past it.
+// The distance of a flow's number past that of the first pair, and 0 if it is not past it.
 fn past_first(pairs: &[(FlowNo, usize)], flow: FlowNo) -> usize
     ensures { MatchOption (slice_get pairs.now 0) (result ≡ 0) (λ first. result ≡ flow - first.0) }
 {

@@ -119,7 +119,7 @@ impl Seating {
         }
         let left = 2 * hole + 1;
         let right = left + 1;
-        // Which of the two is first cannot be predicted, so it is added and not branched on.
+        // The comparison of the two cannot be predicted, so it is added and not branched on.
         let later = right < count && self.entries[right].is_before(&self.entries[left]);
         Some(left + usize::from(later))
     }

@@ -27,7 +27,7 @@ pub(crate) struct ClientSlot {
     client: Client,
 }
 
-/// Where the client of a flow is in the table.
+/// The place of a flow's client in the table.
 #[derive(Clone, Copy, Debug)]
 pub(crate) struct ClientKey {
     flow: FlowNo,

@@ -1,4 +1,4 @@
--- How digits are decoded, two for each byte.
+-- Digits are decoded two for each byte.
 use Rattle.std.proofs.Common.{◌≡◌, ◌<◌, ◌≤◌, ◌+◌, ◌*◌, ◌%◌, ◌⊎◌, inl, inr, ℕ, Bool, true, false, cond, nat_eq, nat_le}
 use Rattle.std.proofs.Common.{◌&&◌, suc, List, [], ◌∷◌, ◌++◌, length, take, drop, set, get_or, None}
 use Rattle.std.proofs.Common.{max, arith, sym, ◌∙◌, ap, subst, refl}

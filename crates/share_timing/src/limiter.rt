@@ -1,4 +1,4 @@
-//! How often messages of a kind are printed.
+//! The limit of the messages of a kind that are printed.
 ghost use Rattle.std.specs.Prelude.{◌≡◌};
 ghost use Rattle.share_timing.specs.Limiter.{new_limiter, printing_of, after_message, after_second};
 

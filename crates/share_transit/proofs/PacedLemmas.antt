@@ -31,7 +31,7 @@ use Rattle.share_transit.specs.Paced.{opened}
 use Rattle.share_transit.specs.Paced.{began as paced_began, turn_by, turn_made, AreWithin, AreBeyond, FollowsText}
 use Rattle.share_transit.proofs.TransitLemmas.{length-concat-append, keeps_others, ready_same, ready_alone}
 
--- ---- What a turn did
+-- ---- The effect of a turn
 
 -- the frame of a packet has some bytes
 pub frame_some : (s : Sending) → 0 < length (frame_of s)
@@ -231,7 +231,7 @@ puts frames total before given o (new ∷ news) h =
     (λ k. record { frames = append_assoc o.frames (new ∷ []) news k; out = o.out; allowed = o.allowed })
     (puts (frames ++ new ∷ []) total before given (with_frame o new) news (put frames total before given o h new))
 
--- ---- What holds after each call
+-- ---- The invariant after each call
 
 -- an outbox knows no byte that is out and not allowed
 abbrev pub OutIsAllowed : Type 0

@@ -22,7 +22,7 @@ pub length-concat-append : (xs ys : List (List ℕ))
     → length (concat (xs ++ ys)) ≡ length (concat xs) + length (concat ys)
 length-concat-append xs ys = ap (λ t. length t) (concat-append xs ys) ∙ length-append (concat xs) (concat ys)
 
--- ---- What the wire takes is of the first frames
+-- ---- The wire takes bytes of the first frames
 
 -- an outbox of all these frames is one of the first of them, with the others after them
 pub record HasOthers (others : List (List ℕ)) (all part : OutboxView) : Type 0 where

@@ -22,7 +22,7 @@ pub record TransitView : Type 0 where
 abbrev pub empty_transit : TransitView
 empty_transit = record { outbox = empty_outbox; due = []; handed = 0; written = 0 }
 
--- ---- What always holds
+-- ---- The invariants
 
 abbrev pub AreSolid : List (List ℕ) → Type 0
 AreSolid [] = Unit {0}

@@ -59,7 +59,7 @@ is_due now u = time_left now u == 0
 abbrev pub pause_when_lost : ℕ → UplinkView → ℕ
 pause_when_lost now u = pause_after (capped (((now - u.since) / 1_000_000_000) * 1000)) u.pause
 
--- ---- What becomes of it
+-- ---- The changes of its state
 
 -- an uplink that was never dialled
 abbrev pub new_uplink : SocketAddr → ℕ → ℕ → UplinkView

@@ -6,7 +6,7 @@ use std::io;
 use std::io::Error;
 use std::net::{Net, SocketAddr};
 
-/// How frames go over an uplink.
+/// The way that frames take over an uplink.
 #[derive(Clone, Copy, Debug, PartialEq, Eq)]
 pub enum Transport {
     /// Over TCP, as a stream.

@@ -1,4 +1,4 @@
-//! Where an uplink stands, and what became of it.
+//! The state of an uplink, and what became of it.
 ghost use Rattle.std.specs.Prelude.{◌≡◌, true, false};
 ghost use Rattle.std.specs.IoError.{error_kind};
 ghost use Rattle.std.specs.Time.{instant_nanos};
@@ -10,7 +10,7 @@ use std::io::{Error, ErrorKind};
 use std::mem;
 use std::time::Instant;
 
-/// Where an uplink stands.
+/// The state of an uplink.
 #[derive(Drop)]
 pub(crate) enum State {
     /// It is dialled at this time.

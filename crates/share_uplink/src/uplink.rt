@@ -124,7 +124,7 @@ impl Uplink {
         }
     }
 
-    /// Where it is dialled.
+    /// The address that it dials.
     pub fn address(&self) -> SocketAddr
         ensures { result ≡ self.now.address }
     {
@@ -390,7 +390,7 @@ fn milliseconds_between(since: Instant, now: Instant) -> u64
         .saturating_mul(1000)
 }
 
-// How long a dial may take yet.
+// The time that a dial may still take.
 fn dial_time_left(since: Instant, now: Instant) -> Duration
     ensures { as_nanos result ≡ 5_000_000_000 - (instant_nanos now - instant_nanos since) }
 {

@@ -12,7 +12,7 @@ use std::fs::{File, Files};
 use std::io;
 use std::io::{Eprint, Print};
 
-/// Which books are billed and checked, and how the bill is printed.
+/// The books that are billed and checked, and the form of the bill.
 #[derive(Clone, Copy, Debug)]
 pub struct VerifiedBilling<'a, 'b> {
     /// The file of the rows.

@@ -34,7 +34,7 @@ noted reads writes c = record c { reads = c.reads || reads; writes = c.writes ||
 abbrev pub time_left : ℕ → ClientView → ℕ
 time_left now c = 10000000000 - (now - c.begun)
 
--- ---- What is left to do
+-- ---- The work that is left
 
 -- bytes that come are read
 abbrev pub is_reading : Stage → Bool

@@ -21,7 +21,7 @@ const PIECE: usize = 2048;
 /// The number of seconds that a connection has from its beginning to its end.
 const SECONDS: u64 = 10;
 
-/// How far a connection has come.
+/// The stage of a connection.
 #[derive(Clone, Copy, Debug, PartialEq, Eq)]
 pub enum Stage {
     /// The head comes.
@@ -117,7 +117,7 @@ impl WebClient {
         self.token
     }
 
-    /// How far it has come.
+    /// Its stage.
     pub fn stage(&self) -> Stage
         ensures { result ≡ self.now.stage }
     {
@@ -131,7 +131,7 @@ impl WebClient {
         self.head.as_bytes()
     }
 
-    /// How long it has until it is ended.
+    /// The time until it is ended.
     pub fn time_left(&self, now: Instant) -> Duration
         ensures { as_nanos result ≡ time_left (instant_nanos now) self.now }
     {

@@ -2,7 +2,7 @@
 
 use share_billing::Form;
 
-/// How a script is to be run.
+/// The orders for the run of a script.
 #[derive(Clone, Copy, Debug)]
 pub struct Orders<'a> {
     /// The events of the link's life.
@@ -13,14 +13,14 @@ pub struct Orders<'a> {
     pub is_strict: bool,
 }
 
-/// How a link is to be served.
+/// The orders for the service of a link.
 #[derive(Clone, Copy, Debug)]
 pub struct ServeOrders<'a> {
-    /// Where ingress connections are accepted.
+    /// The address at which ingress connections are accepted.
     pub ingress: &'a str,
-    /// Where control connections are accepted.
+    /// The address at which control connections are accepted.
     pub control: &'a str,
-    /// Where the frames go.
+    /// The address that the frames go to.
     pub uplink: &'a str,
     /// The file of the audit.
     pub audit: &'a str,
@@ -38,7 +38,7 @@ pub struct ServeOrders<'a> {
     pub is_verbose: bool,
 }
 
-/// Which books are to be billed.
+/// The books to be billed, and the form of the bill.
 #[derive(Debug, Drop)]
 pub struct BillOrders<'a> {
     /// The files of their texts.

@@ -8,7 +8,7 @@ use std::io;
 use std::io::ErrorKind;
 use std::sync::Wait;
 
-/// How a thread makes its calls of the system. One that fails is made again each second. The loop is woken when that
+/// The calls of the system that a thread makes. One that fails is made again each second. The loop is woken when that
 /// begins and when it ends.
 #[derive(Clone, Copy)]
 pub(crate) struct Attempts<'s> {

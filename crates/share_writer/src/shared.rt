@@ -15,7 +15,7 @@ const RETRY_SECONDS: u64 = 1;
 pub(crate) struct ThreadState {
     // The number of the fault for which its call is made again, and 0 if there is none.
     fault: AtomicU64,
-    // Where it pauses before it makes the call again.
+    // The parker of its pause before it makes the call again.
     parker: Parker,
 }
 

@@ -1,4 +1,4 @@
--- How a run of a script ended, from how the calls ended that it made.
+-- The end of a run of a script, from the ends of the calls that it made.
 use Rattle.std.specs.Prelude.{Result, Ok, Err, IfOk}
 use Rattle.std.specs.declared.process.ExitCode.{ExitCode}
 use Rattle.share_asked.specs.Statuses.{OfSomeScript}

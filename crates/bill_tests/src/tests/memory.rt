@@ -1,5 +1,5 @@
-//! What bills take of memory: the packets of a text of lengths take none. Requests are refused by the allocator of
-//! `.ci/allocator.c` alone, with which `.ci/memory` runs this test; with any other no bill is refused memory.
+//! Bills take memory, but none for the packets of a text of lengths. The allocator of `.ci/allocator.c` alone refuses
+//! requests, and `.ci/memory` runs this test with it. With any other no bill is refused memory.
 
 use super::tariffs::Four;
 use share_bill::bill_text;

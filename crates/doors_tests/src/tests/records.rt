@@ -16,7 +16,7 @@ const PACKETS: u64 = 200;
 
 const LENGTH: usize = 9000;
 
-/// How often a reader reads at most.
+/// The most times that a reader reads.
 const READS: u32 = 20000;
 
 // Reads what is there, and counts its records, which have to be whole: the first byte of each is one more than before.

@@ -20,7 +20,7 @@ const FRAMES: &[u8; 36] =
 /// A packet as long as packets can be.
 pub(super) const LONG: [u8; 9000] = [b'x'; 9000];
 
-/// How the plan of the next book differs, its packets' lines, and how many packets are dropped.
+/// A change of the next book's plan by its name, its packets' lines, and the number of packets dropped.
 #[derive(Clone, Copy)]
 struct Change {
     name: &'static str,

@@ -6,7 +6,7 @@ use share_gateway::{Field, FrameCut, Frames, streams_are_cut_into_frames};
 use std::alloc::Global;
 use std::process::Abort;
 
-/// How a stream ends after its frames.
+/// The end of a stream after its frames.
 #[derive(Clone, Copy, Debug, PartialEq, Eq)]
 enum Ends {
     More,

@@ -6,7 +6,7 @@ use share_gateway::{Cut, RECORDS_ROOM, Records, streams_are_cut_into_records};
 use std::alloc::{AllocError, Global};
 use std::process::Abort;
 
-/// How a stream ends after its items.
+/// The end of a stream after its items.
 #[derive(Clone, Copy, Debug, PartialEq, Eq)]
 enum Ends {
     More,

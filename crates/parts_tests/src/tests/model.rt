@@ -218,13 +218,13 @@ fn every_error_but_an_interruption_is_a_failure(rt: HostRuntime) {
     }
 }
 
-/// How often a piece is offered in one call, at most.
+/// The most times that a piece is offered in one call.
 const OFFERS: u64 = 1_048_577;
 
 const BROKEN: StdAnswer = StdAnswer::Error(ErrorKind::BrokenPipe);
 
-/// How often the writer is interrupted, its answer then, what is answered to a piece of three bytes, and after how many
-/// calls in all.
+/// The number of times that the writer is interrupted, its answer then, the answer to a piece of three bytes, and the
+/// number of calls in all.
 const PATIENCE: [(u64, StdAnswer, Answer, u64); 7] = [
     (0, StdAnswer::All, Answer::Accepted(3), 1),
     (7, StdAnswer::All, Answer::Accepted(3), 8),

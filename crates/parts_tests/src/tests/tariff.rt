@@ -107,7 +107,7 @@ fn shelves_hold_one_to_eight_and_refused_ones_are_dropped(rt: HostRuntime) -> Re
     Ok(())
 }
 
-// How often the closures were called.
+// The number of calls of each closure.
 fn calls(charged: &AtomicU64, booked: &AtomicU64) -> (u64, u64) {
     (
         charged.load(Ordering::SeqCst),

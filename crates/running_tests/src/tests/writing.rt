@@ -14,7 +14,7 @@ use std::sync::{Arc, Wait};
 use std::thread;
 use std::thread::Threads;
 
-/// How often a thread looks at a word, at most.
+/// The most times that a thread looks at a word.
 const LOOKS: u64 = 1_000_000_000;
 
 fn is_seen(word: &Stop) -> bool {

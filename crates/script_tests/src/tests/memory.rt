@@ -332,7 +332,7 @@ const ROWS: [Row<'static>; 10] = [
 /// The first rows are of one script.
 const OF_ONE_SCRIPT: usize = 4;
 
-// How a run ends that printed this: one that lacks memory prints no line of bytes.
+// The end of a run that printed this: one that lacks memory prints no line of bytes.
 fn ended(text: &[u8]) -> Result<(), ScriptFault> {
     for line in text.split_inclusive(|byte| *byte == b'\n') {
         if line.starts_with(b"out ") {

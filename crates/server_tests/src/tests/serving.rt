@@ -58,7 +58,7 @@ const PACKETS: u64 = 2000;
 
 const REST: u64 = 5;
 
-/// How long a client waits for an answer, in seconds.
+/// The seconds that a client waits for an answer.
 const PATIENCE: u64 = 20;
 
 /// One connection of each kind.
@@ -71,7 +71,7 @@ pub(super) const PLAN: Plan = Plan {
 /// The records of two ingress connections, each with a payload that is the connection's number.
 const NUMBERED: [&[u8]; 2] = [&[1, 0x61, 0, 1, 1], &[1, 0x61, 0, 1, 2]];
 
-/// How the clients and the peer of the uplink end.
+/// The ends of the clients and of the uplink's peer.
 #[derive(Clone, Copy, Debug, PartialEq, Eq)]
 enum Play {
     /// As they should.

@@ -1,4 +1,4 @@
-//! How a link's service ends: at a stop that comes in the middle of a round, and if its thread is refused. A thread is
+//! A link's service ends at a stop that comes in the middle of a round, and if its thread is refused. A thread is
 //! refused by the allocator of `.ci/allocator.c` alone, with which `.ci/memory` runs that test.
 ghost use Rattle.std.specs.Prelude.{◌≡◌, []};
 ghost use Rattle.share_base.specs.declared.version.Version.TheVariants.{Two};
@@ -19,7 +19,7 @@ use std::sync::{Mutex, Wait};
 use std::thread;
 use std::thread::Threads;
 
-/// How often a service is stopped, and at how many moments after its beginning, one yield apart.
+/// The number of stops of a service, and the number of moments after its beginning, one yield apart.
 const STOPS: u64 = 4000;
 
 const MOMENTS: u64 = 100;

@@ -2,7 +2,7 @@
 ghost use Rattle.std.specs.Prelude.{◌≡◌};
 ghost use Rattle.share_bill.specs.BookLines.{kind_of};
 
-/// How a book's text spells its packets.
+/// The way in which a book's text spells its packets.
 #[derive(Clone, Copy, Debug, PartialEq, Eq)]
 pub enum Kind {
     /// With their payloads: the text is an audit of version 2.

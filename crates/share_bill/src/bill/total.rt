@@ -100,7 +100,7 @@ fn first_total(row: &TenantBill) -> TenantTotal
     }
 }
 
-// Where the tenant of a name stands. If it stands nowhere, the length.
+// The index of the tenant of a name, or the length if there is none.
 fn index_of(totals: &[TenantTotal], name: Name) -> usize
     ensures { result ≡ index_of totals.now name }
 {

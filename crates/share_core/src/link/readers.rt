@@ -103,7 +103,7 @@ impl<S: Rates> Link<S> {
         }
     }
 
-    /// How full the buffer of an open flow is.
+    /// The backlog of an open flow's buffer.
     pub fn backlog(&self, flow: FlowNo) -> Option<Backlog>
         ensures { result ≡ backlog_of self.now.live.buffers flow }
     {

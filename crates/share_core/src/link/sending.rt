@@ -34,7 +34,7 @@ impl<S: Rates> Link<S> {
         })
     }
 
-    /// Where a write goes on: at the frame in part, and otherwise at a new frame of the next flow.
+    /// The place at which a write goes on: the frame in part, and otherwise a new frame of the next flow.
     #[inline(always)]
     pub fn sending(&self) -> Option<NextWrite>
         ensures { MatchOption result (sending self.now.live ≡ None) (λ p.

@@ -1,4 +1,4 @@
--- Where the calls of one run lead: from a reader before them to the reader after them, and so for a writer.
+-- The calls of one run lead from a reader before them to the reader after them, and so for a writer.
 use Rattle.std.specs.Prelude.{◌≡◌, ◌<◌, ◌≤◌, ℕ, ◌+◌, List, length, ⊤}
 use Rattle.share_model.specs.declared.reader.Got.{Got}
 use Rattle.share_model.specs.declared.reader.Got.TheVariants.{

@@ -1,4 +1,4 @@
--- Which replies are those of events.
+-- The replies of events.
 use Rattle.std.specs.Prelude.{Bool, true, false}
 use Rattle.share_base.specs.declared.command.Reply.{Reply}
 use Rattle.share_base.specs.declared.command.Reply.TheVariants.{Refused}

@@ -1,4 +1,4 @@
--- Which values the fields of a command and of an arrival have: those that a line can spell.
+-- The values that the fields of a command and of an arrival have: those that a line can spell.
 use Rattle.std.specs.Prelude.{◌≡◌, ◌<◌, ◌≤◌, ◌^◌, ℕ, Bool, true, List, length, nat_lt}
 use Rattle.std.specs.List.{list_all}
 use Rattle.share_base.specs.Name.{is_name}

@@ -1,4 +1,4 @@
--- Where flows are in the queue along a chain of calls, as `position` answers.
+-- The places of flows in the queue along a chain of calls, as `position` answers.
 use Rattle.std.specs.Prelude.{◌≡◌, ◌≢◌, ℕ, ℤ, pos, ◌+ℤ◌, ◌-ℤ◌, ◌≤ℤ◌, List, [], ◌∷◌, None, IsSomeAnd, IsTrue}
 use Rattle.std.specs.Int.{int_max}
 use Rattle.std.specs.Option.{option_map_or}

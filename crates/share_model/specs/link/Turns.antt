@@ -1,4 +1,4 @@
--- Which frame is sent, and what the writer's answers make of it.
+-- The frame that is sent, and the effect of the writer's answers on it.
 use Rattle.std.specs.Prelude.{ℕ, ◌+◌, Bool, true, false, not, ◌&&◌, List, length, drop, nat_eq, Option, None, Some}
 use Rattle.std.specs.Prelude.{option_map, option_and_then, if◌then◌else◌}
 use Rattle.share_base.specs.declared.command.Turn.{Turn}
@@ -13,7 +13,7 @@ use Rattle.share_model.specs.funding.Changes.{set_active}
 use Rattle.share_model.specs.link.Live.{Live, with_level_queue, with_one_event}
 use Rattle.share_model.specs.link.Books.{books_with_units, units_due, is_held, tariff_of}
 
--- Which packet is sent
+-- The packet that is sent
 
 -- a frame that a write goes on with: its version, the number of its flow's tariff, its packet, and how many of its
 -- bytes are out

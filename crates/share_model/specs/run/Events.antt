@@ -1,5 +1,6 @@
--- Which events a link makes: none after its life; commands and arrivals whose fields a line can spell; a write or a
--- fault only while the link is not broken and has a frame to send; and a write of at least one byte.
+-- The events that a link makes. It makes none after its life. Commands and arrivals have fields that a line can spell.
+-- A write or a fault comes only while the link is not broken and has a frame to send, and a write has at least one
+-- byte.
 use Rattle.std.specs.Prelude.{◌≡◌, ◌<◌, ◌≤◌, ℕ, false, List, [], ◌∷◌, length, take, flat_map, Option, None, Some}
 use Rattle.share_base.specs.Body.{IsUnstamped}
 use Rattle.share_base.specs.declared.command.Event.{Event}

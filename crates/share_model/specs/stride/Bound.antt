@@ -1,5 +1,5 @@
--- How far a pass can be from the global pass: at most the client's stride for each unit charged so far, and one
--- stride more.
+-- The bound of the distance of a pass from the global pass. It is at most the client's stride for each unit charged so
+-- far, and one stride more.
 use Rattle.std.specs.Prelude.{◌≡◌, ℕ, ◌+◌, ◌*◌, ◌^◌, ◌<◌, ◌≤◌, ℤ, pos, ◌-ℤ◌, Some, IsTrue, unsigned_abs, if◌then◌else◌}
 use Rattle.std.specs.FinMap as map
 use Rattle.std.specs.FinMap.{get}

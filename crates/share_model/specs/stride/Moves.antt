@@ -149,7 +149,7 @@ abbrev pub MovesCommute : Type 0
 MovesCommute = (s : Stride) (f g : ℕ) (a b : Move) → f ≢ g → after_move (after_move s f a) g b
     ≡ after_move (after_move s g b) f a
 
--- ---- What is read
+-- ---- The readings
 
 abbrev pub position : Client → Position
 position c =

@@ -53,7 +53,7 @@ from_pairs [] = []
 from_pairs (c ∷ []) = []
 from_pairs (c ∷ d ∷ cs) = (hex_value c * 16 + hex_value d) ∷ from_pairs cs
 
--- How each line is spelled
+-- The spelling of each line
 
 abbrev pub command_words : Command → List (List ℕ)
 command_words (MakeCurrency name) = codes "mkcur" ∷ name ∷ []
@@ -86,7 +86,7 @@ words (Audit version) = codes "audit" ∷ version_word version ∷ []
 abbrev pub spelling_of : Line → List ℕ
 spelling_of l = join_with_byte 32 (words l)
 
--- Which values a line can have
+-- The values that a line can have
 
 -- a payload is at least one byte
 abbrev pub IsPayload : List ℕ → Type 0

@@ -1,4 +1,4 @@
-//! Which lines are printed, over seconds.
+//! The lines printed, over seconds.
 
 use crate::tests::assertions::same;
 use share_messages::{Decision, Kind, Messages};

@@ -6,7 +6,7 @@ use std::alloc::Global;
 use std::process::Abort;
 use std::test::Fail;
 
-/// Where the gateway listens.
+/// The address at which the gateway listens.
 const ADDRESS: &[u8] = b"127.0.0.1:9107";
 
 /// A head, what it asks for, and whether the answer has a body.

@@ -1,4 +1,4 @@
--- How bytes are written, offer by offer.
+-- Bytes are written offer by offer.
 use Rattle.std.proofs.Common.{◌≡◌, ◌≤◌, ◌+◌, ◌-◌, ℕ, List, ◌++◌, length, take, drop, Option, None, Some}
 use Rattle.std.proofs.Common.{option_map, arith, sym, ◌∙◌, ap, subst}
 use mathlib.Core.List.{append_assoc}

@@ -1,4 +1,4 @@
--- Which flows are held after a book was opened, posted, held or closed.
+-- The flows that are held after a book was opened, posted, held or closed.
 use Rattle.std.specs.Prelude.{◌≡◌, ℕ, Bool, true, false, List, [], ◌∷◌, ◌++◌, find, nat_eq, Option, None, Some}
 use Rattle.std.specs.Prelude.{option_map}
 use Rattle.std.specs.Prelude.{is_some, if◌then◌else◌}

@@ -40,7 +40,7 @@ level_move-none c (suc n) has =
     level_move-competing c n (has.competes.1 (omega arith))
     ∙ ap (λ b. if b then None else Some (Modify (suc n))) (eq-eqb c.tickets (suc n) (has.tickets (omega arith)))
 
--- ---- What a levelling leaves as it was
+-- ---- The parts that a levelling leaves
 
 pub get-level_one_other : (s : Stride) (f tickets g : ℕ) → g ≢ f
     → get (level_one s f tickets).clients g ≡ get s.clients g
@@ -148,7 +148,7 @@ IsSound-level_all s (want ∷ wants) sound all =
     IsSound-level_all (level_one s want.0 want.1) wants (IsSound-level_one s want.0 want.1 sound all.0.0 all.0.1)
     (can_level-level_one s want.0 want.1 wants all.0.0 all.1)
 
--- ---- What was levelled is level, and stays
+-- ---- Levelled clients are level, and stay so
 
 pub has_tickets-idle : (c : Client) → c.competes ≡ false → HasTickets c 0
 has_tickets-idle c idle = record {

@@ -42,7 +42,7 @@ use Rattle.share_model.specs.text.Talk.{talk, after, lines_of}
 use Rattle.share_model.specs.text.Texts.{line_text}
 use Rattle.share_model.proofs.lemmas.text.WordLemmas.{length-hex}
 
--- How long lines are
+-- The lengths of lines
 
 short_name : (w : List ℕ) → IsName w → length w ≤ 16
 short_name w h =

@@ -39,7 +39,7 @@ use Rattle.share_model.specs.text.Talk.{after}
 use Rattle.share_model.specs.text.Events.{made_of, events_by, events_of, texts_of}
 use Rattle.share_model.specs.text.Texts.{line_text}
 
--- Which lines choose a version
+-- The lines that choose a version
 
 -- where the events of a line begin: at the state of before it, or at that of a new link of the version that it chooses
 abbrev pub chosen : State → Made → State

@@ -8,7 +8,7 @@ abbrev pub max_payload : Version → ℕ
 max_payload One = 1490
 max_payload Two = 9000
 
--- how many bytes of a frame are before its payload
+-- the length of a frame before its payload, in bytes
 abbrev pub header_length : Version → ℕ
 header_length One = 12
 header_length Two = 17

@@ -87,7 +87,7 @@ tenants-more rates s (f ∷ events) e =
 
 -- ---- Sums over packets
 
--- how many units a frame is charged
+-- the units that a frame is charged
 abbrev units_in : List Rate → Version → Sent → ℕ
 units_in rates version d = units_of (rate_of rates d.tariff) (length (sent_frame version d))
 

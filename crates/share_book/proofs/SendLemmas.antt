@@ -208,7 +208,7 @@ module _ (old : Audited) (link : LinkView (Unit {0})) (before after : OutboxView
 abbrev own_link : LinkView OutboxView → LinkView (Unit {0})
 own_link v = record { life = v.life; rates = v.rates; live = v.live; writer = tt }
 
--- how many bytes a turn wrote
+-- the number of bytes that a turn wrote
 abbrev wrote_count : Turn → ℕ
 wrote_count (Wrote flow seq k whole) = k
 wrote_count _ = 0

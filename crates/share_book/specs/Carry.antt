@@ -30,7 +30,7 @@ packets_by (Some b) = b.packets
 abbrev pub left_for : ClosedView → NameBytes → List (List ℕ)
 left_for c name = packets_by (buffer_of c.buffers (tenant_flow c.plan name))
 
--- how many packets of all tenants wait in it
+-- the number of packets of all tenants that wait in it
 abbrev pub left_in : ClosedView → ℕ
 left_in c = sum_by (λ (t : TenantView). count_in c.buffers t.flow) c.plan.tenants
 
@@ -48,7 +48,7 @@ abbrev pub buffer_by : List Buffer → Option ℕ → Option Buffer
 buffer_by bs None = None
 buffer_by bs (Some f) = buffer_of bs f
 
--- how many packets have room in the buffer of the flow of a name: none if there is no such flow
+-- the number of packets that have room in the buffer of the flow of a name: none if there is no such flow
 abbrev pub places_for : Live → NameBytes → ℕ
 places_for l name = places_by (buffer_by l.buffers (number_in (flow_named l.graph name)))
 

@@ -37,7 +37,7 @@ pub record TextView : Type 0 where
   pub bytes : List ℕ
   pub space : ℕ
 
--- how many more bytes may wait
+-- the number of bytes more that may wait
 abbrev pub text_room : TextView → ℕ
 text_room t = t.space - length t.bytes
 

@@ -19,7 +19,7 @@ is_leap year = (year % 4 == 0 && not (year % 100 == 0)) || year % 400 == 0
 abbrev pub has_thirty : ℕ → Bool
 has_thirty month = month == 4 || month == 6 || month == 9 || month == 11
 
--- how many days a month has
+-- the number of days of a month
 abbrev pub days_in : ℕ → ℕ → ℕ
 days_in year month =
     if month == 2 then (if is_leap year then 29 else 28) else if has_thirty month then 30 else 31

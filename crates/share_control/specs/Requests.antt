@@ -20,7 +20,7 @@ use Rattle.share_control.specs.declared.requests.Request.TheVariants.{NoPlace}
 use Rattle.share_control.specs.declared.requests.Said.{Said}
 use Rattle.share_control.specs.declared.requests.Said.TheVariants.{Reply as SaysReply, Report as SaysReport}
 
--- which lines have a place on a control connection: the changes and the report
+-- the lines that have a place on a control connection: the changes and the report
 abbrev pub request_by : Line → Request
 request_by (Change c) = AsksChange c
 request_by (Send flow payload) = NoPlace

@@ -37,7 +37,7 @@ booked_at {l = l} sound place stands =
     ∙ ap (position (nat_eq place.flow)) (sound.flows.booked ∙ sym sound.flows.buffered)
     ∙ sym (position-map (λ (b : Buffer). b.flow) place.flow l.buffers) ∙ stands
 
--- where a buffer stands there is one
+-- the flow of a buffer that stands at a place has a buffer
 pub buffered_at : (bs : List Buffer) (place : Place) → Stands bs place → IsSome (buffer_of bs place.flow)
 buffered_at bs place stands = is_found (is_buffer_of place.flow) bs place.at stands
 

@@ -5,7 +5,7 @@ use Rattle.share_doors.specs.Door.{one_more}
 use Rattle.share_doors.specs.declared.packet_port.PacketPort.{PacketPort}
 use Rattle.share_doors.specs.declared.sender.Sender.{Sender}
 
--- how many packets were given, and how often one was lost
+-- the number of packets given, and the number lost
 pub record DeliveriesView : Type 0 where
   pub given : ℕ
   pub lost : ℕ

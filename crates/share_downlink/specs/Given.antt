@@ -22,7 +22,7 @@ counted false n c = record c {
   strangers = capped (c.strangers + 1);
 }
 
--- how many bytes the frame of a payload has
+-- the length of the frame of a payload in bytes
 abbrev pub frame_size : List ℕ → ℕ
 frame_size payload = 17 + length payload
 
@@ -43,7 +43,7 @@ pub record GivesFrames {T : Type 0} (delivers : T → ℕ → List ℕ → Bool 
   pub good : Each (λ (f : Framed). FitsFrame Two f.tariff f.packet) packets
   pub given : Gives delivers before c packets after d
 
--- where in a stream the bytes after these frames begin, if the first of them begins there
+-- the offset in a stream at which the bytes after these frames begin, if the first of them begins there
 abbrev pub offset_after : ℕ → List Framed → ℕ
 offset_after offset [] = offset
 offset_after offset (f ∷ fs) = offset_after (capped (offset + frame_size f.packet.payload)) fs

@@ -18,7 +18,7 @@ use Rattle.share_frame.specs.Fields.{number_in, seq_in, length_in, IsGood}
 use Rattle.share_frame.proofs.FieldOrderLemmas.{end-few}
 use Rattle.share_frame.proofs.ByteLemmas.{two_same, four_same, eight_same}
 
--- where fields end
+-- the ends of fields
 pub record Layout (version : Version) : Type 0 where
   pub tariff : 2 < start_of version Seq
   pub flow : start_of version Seq ≡ start_of version Flow + 4

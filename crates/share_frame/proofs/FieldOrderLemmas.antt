@@ -9,7 +9,7 @@ use Rattle.share_frame.specs.declared.reading.Field.{Field}
 use Rattle.share_frame.specs.declared.reading.Field.TheVariants.{Magic, Version as VersionByte, Tariff, Flow, Seq, Len}
 use Rattle.share_frame.specs.Reading.{start_of, end_of}
 
--- how many fields are before a field
+-- the number of fields before a field
 abbrev pub rank : Field → ℕ
 rank Magic = 0
 rank VersionByte = 1
@@ -41,7 +41,7 @@ rank-at (suc (suc (suc (suc (suc (suc n)))))) few = absurd (omega arith)
 pub same_rank : (p q : Field) → rank p ≡ rank q → p ≡ q
 same_rank p q same = sym (at-rank p) ∙ ap (λ n. get_or fields n Magic) same ∙ at-rank q
 
--- how many bytes the first n fields have
+-- the length of the first n fields in bytes
 first_bytes : Version → ℕ → ℕ
 first_bytes version zero = 0
 first_bytes version (suc zero) = 1

@@ -26,7 +26,7 @@ abbrev pub IsOfVersion : Version → List ℕ → Type 0
 IsOfVersion version bytes =
     ((flow seq tariff len : ℕ) × BeginsWithFrame version flow seq tariff len bytes) ⊎ IsBeginning version bytes
 
--- how many bytes of a frame are before a field
+-- the number of bytes of a frame before a field
 abbrev pub start_of : Version → Field → ℕ
 start_of version Magic = 0
 start_of version VersionByte = 1

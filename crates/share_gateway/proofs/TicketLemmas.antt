@@ -34,7 +34,7 @@ some_at (x ∷ xs) (suc i) few = some_at xs i (omega (arith, few))
 length_all_to : (to : Grantee) → length (all_grants_to to) ≡ length (grants_to to)
 length_all_to to = length-map (numbered (grants_to to)) (grant_to to) ∙ length-enumerate_from 1 (grants_to to)
 
--- how many grants come before those to the grantee of an index
+-- the number of grants before those to the grantee of an index
 abbrev pub grants_before : PlanView → ℕ → ℕ
 grants_before p index = length (flat_map all_grants_to (take index (grantees p)))
 

@@ -14,7 +14,7 @@ use Rattle.share_gateway.specs.declared.opened.NotOpened.{NotOpened}
 use Rattle.share_gateway.specs.declared.opened.NotOpened.TheVariants.{NoMemory, Range, Refused}
 use Rattle.share_gateway.specs.Opened.{refusals_in, is_book_life}
 
--- how the command is answered
+-- the answer to the command
 abbrev pub answer_to : List Rate → Live → Command → Outcome
 answer_to rates l c = Replied (command_step rates l c).1
 

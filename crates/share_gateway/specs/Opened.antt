@@ -28,7 +28,7 @@ event_of c = Commanded c.command
 abbrev pub opening_events : PlanView → List Event
 opening_events p = map event_of (opening p)
 
--- how the opening is answered
+-- the answers to the opening
 abbrev pub opening_outcomes : List Rate → PlanView → List Outcome
 opening_outcomes rates p = outcomes rates (empty_state Two) (opening_events p)
 

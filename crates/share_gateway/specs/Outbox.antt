@@ -25,7 +25,7 @@ empty_outbox = record { frames = []; out = 0; allowed = 0 }
 abbrev pub takes : OutboxView → ℕ → Bool
 takes o n = nat_lt (length o.frames) 4096 && nat_le (length (frame_bytes o) + n) 65536
 
--- how many bytes a frame has at most that has room
+-- the greatest length of a frame that has room, in bytes
 abbrev pub room_of : OutboxView → ℕ
 room_of o = if nat_lt (length o.frames) 4096 then 65536 - length (frame_bytes o) else 0
 

@@ -66,7 +66,7 @@ abbrev pub grants_in : PlanView → ℕ
 grants_in p =
     sum_by (λ (c : CurrencyView). length c.grants) p.currencies + sum_by (λ (t : TenantView). length t.grants) p.tenants
 
--- how many commands make the currencies and the tickets, and fund with these
+-- the number of commands that make the currencies and the tickets, and fund with these
 abbrev pub funding_commands : PlanView → ℕ
 funding_commands p = length p.currencies + 2 * grants_in p
 

@@ -31,7 +31,7 @@ pub record IntakeView : Type 0 where
   pub closed : List ℕ
   pub missed : ℕ
 
--- how many of these offers are of each of eight workers
+-- the number of these offers of each of eight workers
 abbrev pub CountsByWorker : List ℕ → List Offer → Type 0
 CountsByWorker counts os =
     (length counts ≡ 8) × ((w : ℕ) → w < 8 → slice_index counts w ≡ length (of_worker (suc w) os))

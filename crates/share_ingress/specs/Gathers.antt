@@ -33,7 +33,7 @@ HasLeft popped e = length (of_worker e.worker popped) < length e.pushed
 abbrev pub IsWhole : List Offer → EndView → Type 0
 IsWhole popped e = e.pushed ≡ of_worker e.worker popped
 
--- how many of these offers are of each worker, in the order of the workers
+-- the number of these offers of each worker, in the order of the workers
 abbrev pub tallies_of : ℕ → List Offer → List ℕ
 tallies_of zero os = []
 tallies_of (suc n) os = tallies_of n os ++ length (of_worker (suc n) os) ∷ []

@@ -24,7 +24,7 @@ pub record Reading (R : Type 0) : Type 0 where
 abbrev pub left_of : {R : Type 0} → (R → Option (List ℕ)) → Reading R → Option (List ℕ)
 left_of left r = prepend_known r.held (left r.reader)
 
--- how a stream ends when there is nothing more to read and these bytes are held
+-- the end of a stream that has nothing more to read while these bytes are held
 abbrev pub EndsInput : List ℕ → Ended → Type 0
 EndsInput held End = held ≡ []
 EndsInput held Cut = IsCut held

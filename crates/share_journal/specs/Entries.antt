@@ -13,7 +13,7 @@ use Rattle.share_base.specs.declared.version.Version.{Version}
 use Rattle.share_journal.specs.declared.entry.Entry.{Entry}
 use Rattle.share_journal.specs.declared.entry.Source.TheVariants.{Clerk, Worker, Link}
 
--- how many entries it has room for, the version of the link's frames, and the entries that it holds, in order
+-- the number of entries that it has room for, the version of the link's frames, and the entries that it holds, in order
 pub record JournalView : Type 0 where
   pub life : ℕ
   pub version : Version

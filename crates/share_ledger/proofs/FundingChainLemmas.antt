@@ -44,7 +44,7 @@ found {X = X} P test (x ∷ xs) each e = by (test x) refl (λ r. found P test xs
         let one = rest e in
         (one.0, (one.1.0, (one.1.1.0, λ h on. ap (λ b. h x || b) (one.1.1.1 h on) ∙ or_true (h x))))
 
--- how many pass, and whether one does
+-- the number that pass, and whether one does
 pub any-sum : {X : Type 0} (test : X → Bool) (xs : List X) → 1 ≤ sum_by (λ x. cond (test x) 1 0) xs
     → list_any test xs ≡ true
 any-sum test [] some = absurd (omega arith)

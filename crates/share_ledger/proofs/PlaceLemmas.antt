@@ -45,7 +45,7 @@ pub place-base : (g : Graph) (c : NameBytes) → nat_eq (place (names_of g) c) 0
 unfolding place
 place-base g c = grind (arith, nat_tests)
 
--- where a name that is not `base` stands
+-- the index of a name that is not `base`
 pub past-base : (g : Graph) (c : NameBytes) → bytes_eq c base ≡ false → 0 < place (names_of g) c
 past-base g c apart = grind (arith, nat_tests, place-base g c)
 

@@ -16,7 +16,7 @@ use Rattle.share_ledger.specs.Arrays.{numbers_of}
 use Rattle.share_ledger.specs.FundingTickets.{funding_tickets_at}
 use Rattle.share_ledger.proofs.WeightLemmas.{array-set}
 
--- how many pass a test
+-- the number that pass a test
 abbrev pub passing : (ℕ → Bool) → List ℕ → ℕ
 passing test xs = sum_by (λ (x : ℕ). cond (test x) 1 0) xs
 

@@ -35,7 +35,7 @@ use Rattle.share_lives.specs.declared.remainder.Remainder.{Remainder}
 use Rattle.share_lives.specs.declared.stage.Phase.{Phase}
 use Rattle.share_lives.specs.declared.stage.Phase.TheVariants.{Open, Carrying, Over}
 
--- where the life of a book stands, with the books' views; the tariffs of the open book, the most events and the kind of
+-- the state of the life of a book, with the books' views; the tariffs of the open book, the most events and the kind of
 -- the text of a book; and the plan of the next one, if it is another
 pub record LifeView : Type 0 where
   pub stage : Phase

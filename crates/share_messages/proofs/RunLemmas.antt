@@ -178,7 +178,7 @@ counted kind (line ∷ lines) m size limits loud few =
 
 -- ten lines a second
 
--- how many lines may still be printed in a second
+-- the number of lines that may still be printed in a second
 abbrev room : ℕ → LimiterView → ℕ
 room second l = if second == l.second then 10 - l.printed else 10
 

@@ -33,7 +33,7 @@ prints LeaveOut = false
 abbrev pub limited : ℕ × LimiterView → Decision
 limited began = record { left_out = began.0; is_printed = prints (printing_of began.1) }
 
--- how many lines were left out before this one, and whether it is printed
+-- the number of lines left out before this one, and whether it is printed
 abbrev pub decision_of : Kind → ℕ → MessagesView → Decision
 decision_of kind second m =
     if is_silent kind m then record { left_out = 0; is_printed = false }

@@ -34,6 +34,6 @@ rest_text tenant why = tenant_word tenant ++ codes " " ++ shown_text why ++ code
 unfoldable pub line_text : Option Time → Kind → Option (List ℕ) → List ℕ → List ℕ
 line_text time kind tenant why = head_text time kind ++ rest_text tenant why
 
--- how many lines of a kind were left out
+-- the number of lines of a kind that were left out
 abbrev pub left_out_text : ℕ → List ℕ
 left_out_text count = codes "lines left out: " ++ decimal count

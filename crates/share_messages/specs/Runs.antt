@@ -11,18 +11,18 @@ is_of kind line = index_of line.0 == index_of kind
 abbrev pub one_if : Bool → ℕ
 one_if is = if is then 1 else 0
 
--- how many lines of a kind come
+-- the number of lines of a kind that come
 unfoldable pub count_of : Kind → List (Kind × ℕ) → ℕ
 count_of kind [] = 0
 count_of kind (l ∷ ls) = one_if (is_of kind l) + count_of kind ls
 
--- how many lines of a kind are printed
+-- the number of lines of a kind that are printed
 unfoldable pub printed_of : Kind → MessagesView → List (Kind × ℕ) → ℕ
 printed_of kind m [] = 0
 printed_of kind m (l ∷ ls) =
     one_if (is_of kind l && (decision_of l.0 l.1 m).is_printed) + printed_of kind (after_line l.0 l.1 m) ls
 
--- how many lines of a kind are reported as left out
+-- the number of lines of a kind that are reported as left out
 unfoldable pub reported_of : Kind → MessagesView → List (Kind × ℕ) → ℕ
 reported_of kind m [] = 0
 reported_of kind m (l ∷ ls) =

@@ -40,7 +40,7 @@ abs_within : (z : ℤ) (bound : ℕ) → up z ≤ bound → down z ≤ bound →
 abs_within (pos n) bound above below = above
 abs_within (negsuc n) bound above below = below
 
--- how far a client is from the global pass
+-- the distance of a client from the global pass
 record IsNear (z : ℤ) : Type 0 where
   above : up z ≤ 2 ^ 81
   below : down z ≤ 2 ^ 81

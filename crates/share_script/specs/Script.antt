@@ -28,7 +28,7 @@ use Rattle.share_script.specs.declared.script.ScriptFault.TheVariants.{Input, Ou
 pub record Printed (before after_it : Option (List ℕ)) (old : LinkView Told) (script : List ℕ) (left : Option (List ℕ))
     (new : LinkView Told) : Type 0 where
   pub reads : Consumes (Some script) left script
-  -- which lines found no memory
+  -- the lines that found no memory
   pub lacks : List Bool
   pub text : Appends before after_it (talk old.life old.rates start_of_script lacks (lines_of script))
   pub live : new.live ≡ (after old.life old.rates start_of_script lacks (lines_of script)).state.live
@@ -45,7 +45,7 @@ pub record IsOneFold (before after_it : Option (List ℕ)) (old : LinkView Told)
     (left : Option (List ℕ))
     (new : LinkView Told) : Type 0 where
   pub reads : Consumes (Some script) left script
-  -- which lines found no memory
+  -- the lines that found no memory
   pub lacks : List Bool
   pub text : Appends before after_it (talk old.life old.rates start_of_script lacks (lines_of script))
   pub texts : talk old.life old.rates start_of_script lacks (lines_of script)

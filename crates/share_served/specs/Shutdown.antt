@@ -154,6 +154,6 @@ pub record HasNotBegun {X O : Type 0} (journal : JournalView) (old new : O) (res
     pub why : RefusesToBegin journal fault.kind
     pub unwritten : new ≡ old
 
--- how many connections of each kind a server accepts
+-- the number of connections of each kind that a server accepts
 abbrev pub CanServe : ℕ → ℕ → Type 0
 CanServe workers clerks = (1 ≤ workers) × (workers ≤ 8) × (1 ≤ clerks) × (clerks ≤ 8)

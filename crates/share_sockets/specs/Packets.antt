@@ -3,7 +3,7 @@ use Rattle.std.specs.Prelude.{ℕ, Bool, false, ◌||◌, ◌==◌, ℤ, pos, ne
 use Rattle.share_sockets.specs.declared.received.Received.{Received}
 use Rattle.share_sockets.specs.declared.received.Received.TheVariants.{Packet, Again, Waits, Over}
 
--- how many bytes of the buffer the packet fills
+-- the number of bytes of the buffer that the packet fills
 abbrev pub packet_length : Received → ℕ
 packet_length (Packet n sender) = n
 packet_length Again = 0

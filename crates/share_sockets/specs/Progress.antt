@@ -6,7 +6,7 @@ use Rattle.std.specs.declared.io.ErrorKind.TheVariants.{Interrupted}
 use Rattle.share_sockets.specs.declared.progress.Progress.{Progress}
 use Rattle.share_sockets.specs.declared.progress.Progress.TheVariants.{Moved, Again, Waits, Over}
 
--- how many bytes went
+-- the number of bytes that went
 abbrev pub moved : Progress → ℕ
 moved (Moved n) = n
 moved Again = 0

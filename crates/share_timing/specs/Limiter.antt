@@ -12,7 +12,7 @@ pub record LimiterView : Type 0 where
 abbrev pub new_limiter : LimiterView
 new_limiter = record { second = 0; printed = 0; left_out = 0 }
 
--- how many were left out before another second, and the new one
+-- the number left out before another second, and the new one
 abbrev pub after_second : ℕ → LimiterView → ℕ × LimiterView
 after_second second l =
     if second == l.second then (0, l) else (l.left_out, record { second = second; printed = 0; left_out = 0 })

@@ -57,7 +57,7 @@ pub record TurnsInto (old : TransitView) (before : Audited) (turned : Turned) (n
 
 -- ---- Text for the disk
 
--- how many bytes of a text go on a page: as many as have room, of at most 2^64 - 1 over the whole life
+-- the number of bytes of a text that go on a page: as many as have room, of at most 2^64 - 1 over the whole life
 abbrev pub handed_count : TransitView → List ℕ → List ℕ → ℕ
 handed_count t page text = min (min (65536 - length page) (length text)) ((2 ^ 64 - 1) - t.handed)
 
@@ -71,7 +71,7 @@ pub record Hands (old : TransitView) (before : Audited) (page : List ℕ) (new :
 
 -- ---- Text that is written
 
--- how many bytes the first of these frames have whose text ends within the first n bytes
+-- the number of bytes of the first of these frames, those whose text ends within the first n bytes
 abbrev pub due_bytes : ℕ → List Due → ℕ
 due_bytes n [] = 0
 due_bytes n (d ∷ ds) = if nat_le d.ends n then d.count + due_bytes n ds else 0

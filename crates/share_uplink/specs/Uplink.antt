@@ -48,7 +48,7 @@ abbrev pub later : ℕ → ℕ → ℕ
 later now milliseconds =
     if nat_lt (now + milliseconds * 1_000_000) (2 ^ 63 * 1_000_000_000) then now + milliseconds * 1_000_000 else now
 
--- how long a dial that began may take yet, or how long it is before one begins
+-- the time that a dial which began may still take, or the time before one begins
 abbrev pub time_left : ℕ → UplinkView → ℕ
 time_left now u = if u.dials then 5_000_000_000 - (now - u.since) else u.since - now
 
@@ -106,7 +106,7 @@ given_more n u = record u { given = capped (u.given + n); sent = capped (u.sent 
 abbrev pub connected : ℕ → UplinkView → UplinkView
 connected now u = record u { state = Up; dials = false; since = now; given = 0 }
 
--- how many bytes of a connection its socket may hold: at most what it was given, and at most twice what was asked for
+-- the bytes of a connection that its socket may hold: at most what it was given, and at most twice what was asked for
 -- and a segment of 65536
 abbrev pub at_risk : UplinkView → ℕ
 at_risk u = min u.given (2 * u.buffer + 65536)
@@ -125,7 +125,7 @@ not_reached kind now u = record (waits now u.pause u) { fault = Some kind }
 
 -- ---- Work
 
--- how many bytes of frames the wire has not taken
+-- the number of bytes of frames that the wire has not taken
 abbrev pub waiting_in : TransitView → ℕ
 waiting_in t = length (frame_bytes t.outbox) - t.outbox.out
 

@@ -14,7 +14,7 @@ is_same_name a b = bytes_eq (map to_ascii_lowercase a) (map to_ascii_lowercase b
 abbrev pub is_named : List ℕ → List ℕ × List ℕ → Bool
 is_named name field = is_same_name field.0 name
 
--- how many fields have this name
+-- the number of fields that have this name
 abbrev pub count_named : List ℕ → Fields → ℕ
 count_named name fields = count_by (is_named name) fields
 

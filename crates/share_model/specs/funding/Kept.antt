@@ -15,7 +15,7 @@ use Rattle.share_model.specs.funding.Graph.{funding, is_held_by_currency, is_act
 abbrev pub names_of : Graph → List NameBytes
 names_of g = base ∷ g.currencies
 
--- how often a name is in a list of names, and a name and a number among open flows
+-- the number of times that a name is in a list of names, and a name and a number among open flows
 abbrev pub times : NameBytes → List NameBytes → ℕ
 times c cs = count_by (λ d. bytes_eq d c) cs
 

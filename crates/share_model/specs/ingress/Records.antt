@@ -49,7 +49,8 @@ pub data IsBad (bs : List ℕ) : Type 0 where
   bad_length : (name : List ℕ) (high low : ℕ) (rest : List ℕ) → is_name name ≡ true
       → is_payload_length (high * 256 + low) ≡ false → bs ≡ (length name ∷ name) ++ high ∷ low ∷ rest → IsBad bs
 
--- how the bytes after the whole records end a stream; a fault, lack of memory and a bound may come before any bytes
+-- the end that the bytes after the whole records give a stream; a fault, lack of memory and a bound may come before any
+-- bytes
 abbrev pub EndsAs : Ended → List ℕ → Type 0
 EndsAs End bs = bs ≡ []
 EndsAs Cut bs = IsCut bs

@@ -34,7 +34,7 @@ open_in bs f limit = bs ++ new_buffer f limit ∷ []
 abbrev pub close_in : {A : Type 0} → List (BufferOf A) → ℕ → List (BufferOf A)
 close_in bs f = remove_key (is_buffer_of f) bs
 
--- how many packets are in the buffer of a flow: 0 if it is not open
+-- the number of packets in the buffer of a flow: 0 if it is not open
 abbrev pub count_by : {A : Type 0} → Option (BufferOf A) → ℕ
 count_by None = 0
 count_by (Some b) = length b.packets
@@ -42,11 +42,11 @@ count_by (Some b) = length b.packets
 abbrev pub count_in : {A : Type 0} → List (BufferOf A) → ℕ → ℕ
 count_in bs f = count_by (buffer_of bs f)
 
--- how full a buffer is
+-- the backlog of a buffer
 abbrev pub backlog_in : {A : Type 0} → BufferOf A → Backlog
 backlog_in b = record { packets = length b.packets; limit = b.limit }
 
--- how full the buffer of an open flow is
+-- the backlog of an open flow
 abbrev pub backlog_of : {A : Type 0} → List (BufferOf A) → ℕ → Option Backlog
 backlog_of bs f = option_map backlog_in (buffer_of bs f)
 

@@ -45,7 +45,7 @@ header version tariff flow seq len =
 unfoldable pub frame : Version → ℕ → Packet → List ℕ
 frame version tariff h = header version tariff h.flow h.seq (length h.payload) ++ h.payload
 
--- how many bytes it has
+-- its length in bytes
 abbrev pub frame_length : Version → Packet → ℕ
 frame_length version h = header_length version + length h.payload
 

@@ -18,7 +18,7 @@ use Rattle.share_model.specs.stride.Moves.{total}
 abbrev pub packets_in : List Buffer → ℕ
 packets_in bs = sum_by (λ (b : Buffer). length b.packets) bs
 
--- how many packets of open flows are torn
+-- the number of torn packets of open flows
 abbrev pub torn_packets : Option ℕ → ℕ
 torn_packets None = 0
 torn_packets (Some f) = 1
@@ -32,7 +32,7 @@ state_by true part = Torn
 state_by false None = Free
 state_by false (Some p) = InPart
 
--- how many packets are torn, even if the flow was closed since
+-- the number of torn packets, even if the flow was closed since
 abbrev pub torn_count : Bool → ℕ
 torn_count broken = if broken then 1 else 0
 

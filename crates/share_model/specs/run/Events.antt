@@ -46,7 +46,7 @@ write_of (Arrived flow body) = []
 write_of (Written k) = k ∷ []
 write_of Faulted = []
 
--- how many bytes the writer accepted in each write, in order
+-- the number of bytes that the writer accepted in each write, in order
 abbrev pub writes_in : List Event → List ℕ
 writes_in events = flat_map write_of events
 

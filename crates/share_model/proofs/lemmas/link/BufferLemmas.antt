@@ -102,7 +102,7 @@ activities es = map (λ (e : NameBytes × OpenFlow). e.1.active) es
 below_not : (f n m : ℕ) → f ≡ n → n < m → f ≡ m → ⊥
 below_not f n m a b c = omega arith
 
--- which buffers hold a packet of a flow that is not held
+-- the buffers that hold a packet of a flow that is not held
 abbrev pub fillings : (ℕ → Bool) → List Buffer → List Bool
 fillings held bs = map (λ (b : Buffer). is_some_packet b.packets && not (held b.flow)) bs
 

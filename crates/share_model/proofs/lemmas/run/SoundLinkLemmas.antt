@@ -274,7 +274,7 @@ pub head-body : {life : ℕ} {rates : List Rate} {l : Live} {h : Packet} → Sou
 head-body {l = l} {h = h} sound f is =
     payload_by l.version l.counts.events l.buffers f h sound.buffers (buffer_of l.buffers f) refl is
 
--- how many bytes the frame has
+-- the length of the frame in bytes
 pub sending-length : {life : ℕ} {rates : List Rate} {l : Live} {s : Sending} → Sound life rates l → sending l ≡ Some s
     → length (frame_of s) ≡ frame_length l.version s.head
 sending-length {s = s} sound is =

@@ -33,7 +33,7 @@ use Rattle.share_model.specs.run.Fold.{TornFrame}
 use Rattle.share_model.specs.run.Sound.{Sound, IsTornHead, IsTornGone, TornIsTold}
 use Rattle.share_model.proofs.lemmas.run.SoundLinkLemmas.{sound-numbered}
 
--- where the torn packet is
+-- the place of the torn packet
 abbrev IsTornPlaced : List Buffer → Option ℕ → TornFrame → Type 0
 IsTornPlaced buffers torn t = IsTornHead buffers torn t ⊎ IsTornGone buffers torn t
 

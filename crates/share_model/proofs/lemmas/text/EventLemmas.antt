@@ -41,7 +41,8 @@ use Rattle.share_model.specs.text.Texts.{line_text}
 
 -- The lines that choose a version
 
--- where the events of a line begin: at the state of before it, or at that of a new link of the version that it chooses
+-- the state at which the events of a line begin: that of before it, or that of a new link of the version that it
+-- chooses
 abbrev pub chosen : State → Made → State
 chosen s (makes e) = s
 chosen s (says text) = s

@@ -6,7 +6,7 @@ use Rattle.share_bill.specs.Totals.{name_of, figures_of, index_of, no_figures, p
 use Rattle.share_bill.proofs.TotalLemmas.{names-added, figures-added, names-pushed, figures-pushed}
 use Rattle.share_bill.proofs.bill.total.add_row.Goals as goal
 
--- where the row's name stands
+-- the index of the row's name
 at_is : (c : goal.After-totals-1)
     → c.index_of-at.result ≡ index_of c.args.totals.now.items c.args.row.now.name
 at_is c = c.index_of-at.ensures ∙ ap (λ ts. index_of ts c.args.row.now.name) c.as_slice.ensures.value

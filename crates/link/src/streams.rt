@@ -5,7 +5,7 @@ use std::fs;
 use std::fs::Files;
 
 /// Empty files in the places of the standard streams that are closed. Without them the next file or socket would get
-/// the descriptor of such a stream, and a report or a fault would be written into it.
+/// the descriptor of such a stream. A report or a fault would be written into it.
 #[derive(Drop)]
 pub struct StandIns<F> {
     input: Option<F>,

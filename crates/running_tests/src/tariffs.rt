@@ -1,4 +1,4 @@
-//! Tariffs without boxes. Threads share a link, so its shelf must be one that may cross to another thread; the
+//! Tariffs without boxes. Threads share a link, so its shelf must be one that may cross to another thread. The
 //! toolchain does not show that of boxed closures in a type of another crate.
 ghost use Rattle.std.specs.Prelude.{◌≡◌, ◌≤◌, true, IfSome};
 ghost use Rattle.share_model.specs.link.Tariff.{rate_at, is_rate};

@@ -5,7 +5,7 @@ ghost use Rattle.share_archive.specs.Steps.{May, Reaches, after, settled, steps_
 ghost use Rattle.share_archive.specs.declared.plan.BookState.{BookState};
 ghost use Rattle.share_archive.specs.declared.plan.Step.{Step};
 
-/// A kill changes nothing. Take any steps of a close and of any number of recoveries, each whole or cut short: the book
+/// A kill changes nothing. Take any steps of a close and of any number of recoveries, each whole or cut short. The book
 /// comes to the same as without them.
 pub fn killed_books_come_to_the_same()
     ensures { (from book : BookState) → Reaches from book → settled book ≡ settled from }

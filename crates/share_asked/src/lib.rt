@@ -1,5 +1,5 @@
-//! The orders of the command line: runs of scripts and bills over the program's tariffs, texts of help,
-//! faults, and the exit statuses of all these.
+//! The orders of the command line. They are runs of scripts and bills over the program's tariffs, texts of help, and
+//! faults, with their exit statuses.
 #![tactic(auto)]
 
 mod bills;

@@ -1,5 +1,5 @@
 //! The tariffs of a served link, without boxes. Threads share such a link, so its shelf must be one that may cross to
-//! another thread; the toolchain does not show that of boxed closures in a type of another crate.
+//! another thread. The toolchain does not show that of boxed closures in a type of another crate.
 ghost use Rattle.std.specs.Prelude.{◌≡◌, ◌≤◌, true, IfSome};
 ghost use Rattle.share_model.specs.link.Tariff.{rate_at, is_rate};
 ghost use Rattle.share_asked.specs.Rates.{program_rates};

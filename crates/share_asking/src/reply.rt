@@ -26,7 +26,7 @@ pub fn is_end(row: &[u8]) -> bool
     row == END
 }
 
-/// Whether the reply to a line goes on after this row, its first one: a report does, unless that row is a refusal or
+/// Whether the reply to a line goes on after this row, its first one. A report does, unless that row is a refusal or
 /// the end.
 pub fn goes_on(line: &[u8], row: &[u8]) -> bool
     ensures { result ≡ goes_on line.now row.now }

@@ -1,4 +1,4 @@
--- A link whose payloads are seen as images of the same lengths: each event does to what is seen what it does to the
+-- A link whose payloads are seen as images of the same lengths. Each event does to what is seen what it does to the
 -- link, and is answered the same.
 use Rattle.std.specs.Prelude.{◌≡◌, ◌+◌, ◌-◌, ◌&&◌, ℕ, Bool, true, false, not, List, [], ◌∷◌, ◌++◌, length, map}
 use Rattle.std.specs.Prelude.{nat_eq, Option, None, Some, option_map, option_and_then, if◌then◌else◌}

@@ -56,8 +56,8 @@ abbrev pub measured_by : List ℕ → Option (List ℕ) → Result Line Refusal
 measured_by bs None = reading Two bs
 measured_by bs (Some rest) = packet_by (length_of (words_of rest))
 
--- a line of an audit of version 2; in a text of lengths, of a packet `send NAME LENGTH`, whose bytes may be any, as
--- zeros
+-- a line of an audit of version 2. In a text of lengths a packet's line is `send NAME LENGTH`, whose bytes may be any,
+-- as zeros
 abbrev pub book_reading : Kind → List ℕ → Result Line Refusal
 book_reading Whole bs = reading Two bs
 book_reading Lengths bs = measured_by bs (after_send bs)

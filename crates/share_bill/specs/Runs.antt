@@ -10,8 +10,8 @@ use Rattle.share_bill.specs.Bills.{AreEvents, tenants_in, sums_of}
 use Rattle.share_bill.specs.Makings.{BillView, IsBookLink}
 use Rattle.share_bill.specs.Sums.{sums_at}
 
--- each line is the next event of a book, and the bill holds the link of these events, on which no frame is in part, the
--- flows that they opened for tenants, and for each flow the sums over the packets that they sent
+-- each line is the next event of a book. The bill holds the link of these events, on which no frame is in part. It
+-- holds the flows that they opened for tenants, and for each flow the sums over the packets that they sent
 pub record IsBillOf {W : Type 0} (rates : List Rate) (lines : List (List ℕ)) (events : List Event)
     (bill : BillView W) : Type 0 where
   pub are : AreEvents bill.kind rates (empty_state Two) lines events

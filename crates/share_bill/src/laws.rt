@@ -36,9 +36,9 @@ pub fn lengths_decide()
 {}
 
 /// Take the lines of a book, each of which is the next event of a run. The run's bill has a row for each flow that was
-/// opened for a tenant. The row has sums over the packets that the flow sent in the whole run: their number, their
-/// bytes, their units, and the cost of these, which is the account of the flow. A bill of no line is one of these, and
-/// a bill that takes one more line is one again.
+/// opened for a tenant. The row has sums over the packets that the flow sent in the whole run. They are the packets'
+/// number, bytes and units, and the cost of these, which is the account of the flow. A bill of no line is one of these,
+/// and a bill that takes one more line is one again.
 pub fn bills_are_sums()
     ensures first { (rates : List Rate) (new : BillView Discard) → IsBookLink new.link → new.link.rates ≡ rates
         → new.link.live ≡ empty_link Version.Two → new.tenants ≡ [] → new.sent ≡ [] → IsBillOf rates [] [] new }

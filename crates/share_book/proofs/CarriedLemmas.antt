@@ -192,8 +192,8 @@ module _ (q : PlanView) (rising : ascends 0 (flows_of q.tenants) ≡ true) (bs :
 
 -- ---- All packets of a tenant
 
--- a new book over a plan and the closed one of another, while packets are carried: of the tenant of a name those in the
--- new book, followed by those that are left, are all that waited, and the new buffer holds no more than its limit
+-- a new book over a plan and the closed one of another, while packets are carried. Of the tenant of a name, those in
+-- the new book, followed by those that are left, are all that waited. The new buffer holds no more than its limit
 pub record IsBetween (p q : PlanView) (name : NameBytes) (all : List (List ℕ)) (l : Live)
     (c : ClosedView) : Type 0 where
   pub laid : IsLaidOut p l

@@ -50,8 +50,8 @@ pub record SendsWhole (l : Live) : Type 0 where
   pub unparted : l.part ≡ None
   pub unbroken : l.broken ≡ false
 
--- the text, after what was drained of it, is the first line and the lines of the link's events; these are a run of the
--- link, whose life is at most the longest one; and each of them is one that a book makes
+-- the text, after what was drained of it, is the first line and the lines of the link's events. These are a run of the
+-- link, whose life is at most the longest one, and each of them is one that a book makes
 pub record IsRunAndText (a : Audited) : Type 0 where
   pub events : List Event
   pub replies : List Outcome

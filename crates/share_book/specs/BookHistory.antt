@@ -73,9 +73,9 @@ next_payload p name (Some s) = payload_if (nat_eq (tenant_flow p name) s.head.fl
 abbrev pub without_last : ℕ → List (List ℕ) → List (List ℕ)
 without_last n payloads = take (length payloads - n) payloads
 
--- The calls on books from the first one on, as the tenant of a name sees them: the payloads that were taken of it, but
--- for those that were dropped when a book was carried over, the latest ones; those of its frames that were written
--- whole; and the open book as it is.
+-- The calls on books from the first one on, as the tenant of a name sees them. First come the payloads that were taken
+-- of it, but for the latest ones, which were dropped when a book was carried over. Then come those of its frames that
+-- were written whole, and the open book as it is.
 pub data History (name : NameBytes) : List (List ℕ) → List (List ℕ) → BookView → Type 0 where
   opened : (rates : List Rate) (p : PlanView) (events : ℕ) (kind : TextKind) (b : BookView)
       → IsInLimits p → IsOpenBook rates p events kind b → History name [] [] b

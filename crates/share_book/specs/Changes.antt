@@ -34,7 +34,7 @@ abbrev pub Changes : BookView → Command → PlanView → Reply → BookView �
 Changes old c changed reply new =
     MatchBool (is_spent old.audited.link) ((reply ≡ Refused Spent) × (new ≡ old)) (IsChange old c changed reply new)
 
--- grant j of a currency or a tenant is amended: its ticket is, and the grant in the plan; if there is no such grant,
+-- grant j of a currency or a tenant is amended: its ticket is, and the grant in the plan. If there is no such grant,
 -- the answer says why and there is no event, as in a spent life
 abbrev pub Amends : BookView → NameBytes → ℕ → ℕ → Reply → BookView → Type 0
 Amends old name j amount reply new =

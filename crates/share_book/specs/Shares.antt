@@ -14,8 +14,8 @@ IsChargedWithin one other rates s stretch =
     IsWithinShare (client s.live.queue one).pass (client s.live.queue other).pass
     (stretch_charges one other rates s stretch)
 
--- so it is in each stretch of the events of a book that begins with no frame in part, if before it and after each of
--- its events both compete, each with tickets that stay the same
+-- so it is in each stretch of the events of a book that begins with no frame in part. The condition is that before it
+-- and after each of its events both compete, each with tickets that stay the same
 abbrev pub SharesOfEvents : List Rate → List Event → Type 0
 SharesOfEvents rates events =
     (before stretch after : List Event) (one other one_tickets other_tickets : ℕ)

@@ -24,7 +24,7 @@ use std::marker::Model;
 /// The longest frame, in bytes.
 pub(crate) const MAX_FRAME: u32 = 9017;
 
-/// An engine of version 2 without a writer of its own, and the text of its events, as far as it was not drained: each
+/// An engine of version 2 without a writer of its own, and the text of its events, as far as it was not drained. Each
 /// call that makes an event puts its line at the end. A contract sees the link, the kind of the text, and the text.
 /// Between calls the text, after what was drained of it, is the first line and the lines of the link's events.
 #[derive(Drop)]

@@ -56,7 +56,7 @@ pub enum Turned {
     Wrote { flow: FlowNo, seq: u32, count: u32 },
 }
 
-/// A book: one life of an engine of version 2, opened over a plan, and the text of its events as far as it was not
+/// A book: one life of an engine of version 2, opened over a plan. It has the text of its events as far as it was not
 /// drained. Each call makes one event, with its line at the end of the text, or none, and then changes nothing. Of
 /// these calls only `take` takes memory.
 pub struct Book<S: Rates> {

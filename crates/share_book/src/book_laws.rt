@@ -16,19 +16,19 @@ use share_gateway::opened_links_hold_their_plans;
 
 /// The shares of tenants hold in each book, whose events are those of `Book::engine`. Take any stretch of them that
 /// begins with no frame in part. Two flows compete before it and after each event of it, each with tickets that stay
-/// the same. The charges to the pass of the one in it are at most the greater of 0 and a sum of three terms: the
-/// charges to the pass of the other, the distance by which that pass was ahead at the start, and the largest single
+/// the same. The charges to the pass of the one in it are at most the greater of 0 and a sum of three terms. They are
+/// the charges to the pass of the other, the distance by which that pass was ahead at the start, and the largest single
 /// charge of the one.
 pub fn shares_of_books()
     ensures { (a : Audited) (text : IsRunAndText a) → SharesOfEvents a.link.rates text.events }
 {}
 
-/// Nothing is lost between books. Take all books of a gateway: the first is opened over a plan, and each of the others
+/// Nothing is lost between books. Take all books of a gateway. The first is opened over a plan, and each of the others
 /// carries over the packets that waited in the one before. The payloads of a tenant that were written whole, followed
 /// by those that wait in the open book, are those that were taken of it. They are in order, each once, but for those
 /// that were dropped when a book was carried over. The first of the packets that waited are carried, as many as the new
-/// limit lets wait. The others are left in the closed book, which counts them, and dropped with it: all of a tenant
-/// that the new plan lacks, and none if the new limit has room for all.
+/// limit lets wait. The others are left in the closed book, which counts them, and dropped with it. They are all of a
+/// tenant that the new plan lacks, and none if the new limit has room for all.
 pub fn books_lose_nothing()
     ensures order { (name : NameBytes) (taken written : List (List ℕ)) (b : BookView) → History name taken written b
         → taken ≡ written ++ waiting_in b name }

@@ -25,8 +25,8 @@ use std::alloc::Global;
 use toml::Table;
 
 /// The settings that a file's text says. Its fault is the first in this order: the text is not TOML; the file has a
-/// table that it may not have; then each table, its unknown keys first; then the plan; then an address that is given
-/// before.
+/// table that it may not have. Then comes each table, its unknown keys first, then the plan, then an address that is
+/// given before.
 pub fn read_settings(alloc: Global, text: &str) -> Result<Settings, ConfigFault>
     ensures ok { IfOk result (λ s. option_map settings_of (parse_document text.now) ≡ Some (Ok s)) }
     ensures fault { IfErr result (λ e. ¬ (e ≡ NoMemory) → IsFault (parse_document text.now) e) }

@@ -9,7 +9,7 @@ use Rattle.share_model.specs.link.View.{LinkView}
 use Rattle.share_core.specs.declared.next_write.NextWrite.{NextWrite}
 
 -- the flow and the number of the packet, the number of the flow's tariff, how many bytes of the frame are out, and the
--- frame's length; the buffer of the flow stands at the given place
+-- frame's length. The buffer of the flow stands at the given place
 abbrev pub next_write_of : ℕ → Sending → NextWrite
 next_write_of at s = record {
   buffer = record { flow = s.head.flow; at = at };
@@ -34,7 +34,7 @@ abbrev pub IsWithinRest : Option Sending → ℕ → Type 0
 IsWithinRest None k = ⊥
 IsWithinRest (Some s) k = (0 < k) × (k ≤ length (rest_of s))
 
--- no write is due, and a turn answers so: the life is spent, the link is broken, or there is nothing to send, in this
+-- no write is due, and a turn answers so. The life is spent, the link is broken, or there is nothing to send, in this
 -- order
 abbrev pub WritesNothing : {W : Type 0} → LinkView W → Turn → Type 0
 WritesNothing k turn =

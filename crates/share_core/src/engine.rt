@@ -62,7 +62,7 @@ impl<W, S: Rates> Model for Engine<W, S> {
 
 impl<W: Drop, S: Rates + Drop> Engine<W, S> {
     /// A new link of version 1 over this writer, with a life of 1 to 2^24 events. Refusals, in order: `Range` if the
-    /// life is not in that range, `NoMemory` if a growth was refused; the shelf and the writer are dropped then.
+    /// life is not in that range, `NoMemory` if a growth was refused. The shelf and the writer are dropped then.
     pub fn new(alloc: Global, shelf: S, life: u64, writer: W) -> Result<Engine<W, S>, Refusal>
         ensures ok { IfOk result (λ e.
             (e ≡ record { life = life; rates = S.rates shelf; live = empty_link One; writer = writer })
@@ -160,9 +160,8 @@ impl<W, S: Rates> Engine<W, S> {
         self.link.tickets(flow)
     }
 
-    /// The position of an open flow in the queue: whether it competes, its tickets and stride (the last ones if it
-    /// does not compete), and its pass or, if it does not compete, its remain. `None` if no open flow has this
-    /// number.
+    /// The position of an open flow in the queue: whether it competes, its tickets and stride (the last ones if it does
+    /// not compete). Then its pass or, if it does not compete, its remain. `None` if no open flow has this number.
     pub fn position(&self, flow: FlowNo) -> Option<Position>
         ensures { result ≡ position_at self.now flow }
     {
@@ -199,8 +198,8 @@ impl<W, S: Rates> Engine<W, S> {
         }
     }
 
-    /// The values that the flows share: the tickets of those that compete, the global pass and the clock at its
-    /// last update, and the clock, in units.
+    /// The values that the flows share. They are the tickets of those that compete, the global pass and the clock at
+    /// its last update, and the clock, in units.
     pub fn global(&self) -> GlobalPart
         ensures { result ≡ global_part self.now.live.queue }
     {
@@ -214,8 +213,8 @@ impl<W, S: Rates> Engine<W, S> {
         self.link.totals()
     }
 
-    /// The n-th open flow, from 0, in order of opening: its number, its name, and how many packets wait in its buffer,
-    /// a torn one not counted. `None` if fewer flows are open.
+    /// The n-th open flow, from 0, in order of opening. It has its number, its name, and how many packets wait in its
+    /// buffer, a torn one not counted. `None` if fewer flows are open.
     pub fn row(&self, n: u32) -> Option<Row>
         ensures { result ≡ row self.now.live n }
     {
@@ -259,10 +258,10 @@ impl<W, S: Rates> Engine<W, S> {
         self.link.command(command)
     }
 
-    /// A packet comes for the flow of a name, goes to the back of its buffer and takes the next number: one event,
-    /// unless the life is spent. Refusals, in order: `Spent`, `NoFlow`, `BufferFull`. A refused payload is dropped,
-    /// and takes no number. The payload is one that frames of the link's version carry, at most 1490 or 9000 bytes. It
-    /// takes no memory.
+    /// A packet comes for the flow of a name, goes to the back of its buffer and takes the next number. It is one
+    /// event, unless the life is spent. Refusals, in order: `Spent`, `NoFlow`, `BufferFull`. A refused payload is
+    /// dropped, and takes no number. The payload is one that frames of the link's version carry, at most 1490 or 9000
+    /// bytes. It takes no memory.
     pub fn arrive(&mut self, flow: Name, body: Body) -> Reply
         requires { length body.payload ≤ max_payload self.old.live.version }
         ensures did { Steps (λ _ l. arrive_step l flow body.payload) self.old result self.new }
@@ -275,7 +274,7 @@ impl<W, S: Rates> Engine<W, S> {
         self.link.arrive(&flow, body)
     }
 
-    /// A packet comes for the flow of a name, as `arrive` says, whose number is the one that `free_flow` gives: the
+    /// A packet comes for the flow of a name, as `arrive` says, whose number is the one that `free_flow` gives. The
     /// name is not looked up again. It takes no memory.
     pub fn arrive_at(&mut self, flow: Name, number: FlowNo, body: Body) -> Reply
         requires body { length body.payload ≤ max_payload self.old.live.version }
@@ -291,10 +290,10 @@ impl<W, S: Rates> Engine<W, S> {
     }
 
     /// Offers the writer the next bytes of the frame that is sent, at most `most` bytes, which is at least 1, in one
-    /// write call, and its answer decides: `Wrote` if it accepted some, `Again` if it was interrupted, which
-    /// changes nothing, and otherwise `Torn`, a fault that breaks the link for good. Nothing is offered, and
-    /// the answer is `Spent` if the life is spent, `Broken` if the link is broken, and `Idle` if there is
-    /// nothing to send, in this order. It takes no memory.
+    /// write call. Its answer decides: `Wrote` if it accepted some, `Again` if it was interrupted, which changes
+    /// nothing, and otherwise `Torn`, a fault that breaks the link for good. Nothing is offered if the life is spent,
+    /// the link is broken, or there is nothing to send. The answer is then `Spent`, `Broken` or `Idle`, in this order.
+    /// It takes no memory.
     pub fn turn(&mut self, most: u32) -> Turn
     where
         W: TellingWriter,

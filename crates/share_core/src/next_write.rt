@@ -1,7 +1,7 @@
 //! The place at which a write goes on.
 
-/// The frame that a write goes on with: the place of its flow's buffer, the sequence number of its packet, the number
-/// of its flow's tariff, how many of its bytes are out, and its length.
+/// The frame that a write goes on with. It has the place of its flow's buffer, the sequence number of its packet, and
+/// the number of its flow's tariff. It has the number of its bytes that are out, and its length.
 #[derive(Clone, Copy, Debug)]
 pub struct NextWrite {
     pub buffer: share_flows::Place,

@@ -158,8 +158,9 @@ impl PayloadBuffers {
     }
 
     /// Offers a writer the next bytes of the head packet at a place with this header before it, of which `out` bytes
-    /// are out: at most `most` bytes, in one call. They are one slice of the buffer's own memory, header and payload,
-    /// and nothing is copied but the header. A payload of zeros has no memory there, and is shown in the frame.
+    /// are out. It offers at most `most` bytes, in one call. They are one slice of the buffer's own memory, header and
+    /// payload, and nothing is copied but the header. A payload of zeros has no memory there, and is shown in the
+    /// frame.
     pub(crate) fn offer_at<W: TellingWriter>(
         &mut self,
         place: &Place,

@@ -63,7 +63,7 @@ const BILLED: [Billed; 8] = [
         rows: &[("a", 0, 0, 0, 0), ("b", 0, 0, 0, 0)],
         cut: None,
     },
-    // 17 bytes and 31 are one cell of 48 and an overhead of 16, each unit for 2; 9017 bytes are five cells of 2048 and
+    // 17 bytes and 31 are one cell of 48 and an overhead of 16, each unit for 2. 9017 bytes are five cells of 2048 and
     // an overhead of 1024, each unit for 3.
     Billed {
         text: "lengths 2\nopen a 4 2\nopen b 4 4\nmktkt 1 base\nmktkt 1 base\nfund 1 flow a\nfund 2 flow b\n\

@@ -1,5 +1,5 @@
-//! Books over a plan: the worked one, the tenant that is held from its opening on, and the end of a life, after which
-//! the next book goes on.
+//! Books over a plan: the worked one, the tenant that is held from its opening on, and the end of a life. After it the
+//! next book goes on.
 
 use super::assertions::{holds, same};
 use super::made::{named, shared};

@@ -1,6 +1,6 @@
 //! The memory of packets that are carried over: no request is made for them, and what is dropped is given back.
 //! Requests are refused and blocks are counted by the allocator of `.ci/allocator.c` alone, with which `.ci/memory`
-//! runs this test; with any other no request is refused, and no block is missed.
+//! runs this test. With any other no request is refused, and no block is missed.
 
 use super::assertions::{holds, same};
 use super::books::{drain, opened, resume};
@@ -72,8 +72,8 @@ fn count_out(outbox: &mut Outbox, count: u32) {
     outbox.sent(ready);
 }
 
-// Packets that wait are carried to a book over this plan, and then sent. That many packets are dropped, and no block
-// is kept of the closed book, of the packets that were dropped, and of those that were sent.
+// Packets that wait are carried to a book over this plan, and then sent. That many packets are dropped. No block is
+// kept of the closed book, of the packets that were dropped, and of those that were sent.
 fn carries(
     rt: &impl Abort,
     alloc: Global,

@@ -122,7 +122,7 @@ fn a_frame_is_taken_whole_or_not_at_all(rt: HostRuntime) -> Result<(), AllocErro
     Ok(())
 }
 
-// Sends what is ready in parts of 1000 bytes, and checks that each byte is that of its frame, from the byte of this
+// Sends what is ready in parts of 1000 bytes. It checks that each byte is that of its frame, from the byte of this
 // number on. Each frame has LONGEST bytes. Returns the number of the byte after them.
 fn gives(rt: &impl Abort, outbox: &mut Outbox, from: usize) -> usize {
     let mut at = from;

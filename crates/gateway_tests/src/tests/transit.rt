@@ -1,5 +1,5 @@
-//! Text before wire: the worked frame waits until the text of its turn is written, over a redial, a disk that writes
-//! nothing, and the next book.
+//! Text before wire: the worked frame waits until the text of its turn is written. So it is over a redial, a disk that
+//! writes nothing, and the next book.
 
 use super::assertions::{holds, same};
 use super::books::{opened, take_three};

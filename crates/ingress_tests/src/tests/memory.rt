@@ -1,4 +1,4 @@
-//! Calls that may find no memory. Each call is made again and again: first its first request is refused, then its
+//! Calls that may find no memory. Each call is made again and again. First its first request is refused, then its
 //! second, and so on, until none is refused and it succeeds. Requests are refused by the allocator of `.ci/allocator.c`
 //! alone, with which `.ci/memory` runs these tests; with any other the first call succeeds.
 ghost use Rattle.std.specs.Prelude.{◌≡◌};

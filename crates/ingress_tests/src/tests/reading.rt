@@ -138,7 +138,7 @@ fn an_item_is_the_name_and_the_payload(rt: HostRuntime) {
     drop(reader);
 }
 
-// Checks that a record for the flow a is given if it is read in two parts, and that it is cut without the second one.
+// Checks that a record for the flow a is given if it is read in two parts. Without the second one it is cut.
 fn is_read_in_parts(rt: &impl Abort, alloc: Global, record: &[u8], at: usize) {
     let mut reads = Vec::new(alloc);
     assert!(rt; reads.push(Got::Bytes(at)).is_ok());

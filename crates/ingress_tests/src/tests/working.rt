@@ -81,7 +81,7 @@ const SHORT: Bytes = (b"\x01a\x00\x01b\x01a\x00\x01c\x01a", MANY, 100);
 const BAD: Bytes = (b"\x01a\x00\x01b\x00", MANY, 100);
 
 /// Workers: what they read, the places of the queue, what their gate takes and how often it lets an item be offered
-/// again; then why they end, how many items they queue, and the calls of their gate.
+/// again. Then come the reasons of their ends, the number of items that they queue, and the calls of their gate.
 const WORKERS: [(Bytes, usize, Takes, u64, Why, u64, &[u8]); 7] = [
     (
         WHOLE,

@@ -1,5 +1,6 @@
-//! Runs of frames, each cut at each of its bytes: by a failure, a write of no bytes, a declared fault, an interruption
-//! and short writes. A recorder takes them, so each is a run of a link too, and the audits of some are run again.
+//! Runs of frames, each cut at each of its bytes. They are cut by a failure, a write of no bytes, a declared fault, an
+//! interruption and short writes. A recorder takes them, so each is a run of a link too, and the audits of some are run
+//! again.
 
 use super::assertions::same;
 use super::audits::{Recording, replays};
@@ -14,8 +15,8 @@ use std::process::Abort;
 /// A frame: its flow, its number, and how many bytes its payload has.
 type Frame = (u32, u32, u32);
 
-/// The questions before the first turn and after a fault, the frames in their order, their bytes in each version, their
-/// tariff (cell, overhead and price), and whether the audits are run again.
+/// The questions before the first turn and after a fault, the frames in their order, and their bytes in each version.
+/// Then come their tariff (cell, overhead and price), and whether the audits are run again.
 struct Run {
     ready: &'static str,
     after: &'static str,

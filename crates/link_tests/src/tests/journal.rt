@@ -15,8 +15,8 @@ use share_script::{write_reply, write_turn};
 use std::alloc::Global;
 use std::process::Abort;
 
-/// The version, the life, what the writer answers, and the rows; then the bytes that the writer holds, the counts of
-/// the calls that it accepted, how many entries there are, and their audit.
+/// The version, the life, what the writer answers, and the rows. Then come the bytes that the writer holds, the counts
+/// of the calls that it accepted, how many entries there are, and their audit.
 #[derive(Clone, Copy)]
 struct Run {
     version: Version,

@@ -1,7 +1,7 @@
-//! Tests of calls of a journal and a recorder that find no memory, and of calls that take none: no contract
-//! sees these. Each call that takes memory is made on new values again and again: first its first request is refused,
-//! then its second, and so on, until none is refused. Requests are refused by the allocator of `.ci/allocator.c` alone,
-//! with which `.ci/memory` runs these tests; with any other the first call succeeds, and no block is seen.
+//! Tests of calls of a journal and a recorder that find no memory, and of calls that take none: no contract sees these.
+//! Each call that takes memory is made on new values again and again. First its first request is refused, then its
+//! second, and so on, until none is refused. Requests are refused by the allocator of `.ci/allocator.c` alone, with
+//! which `.ci/memory` runs these tests. With any other the first call succeeds, and no block is seen.
 
 use super::allocator::{
     REQUESTS, is_refused, keeps_none, mark, refuse, refuse_each, takes_none, was_refused, were_made,
@@ -35,9 +35,9 @@ const FULL: &str = "\
     mktkt 10 base = ticket 1; mktkt 10 base = ticket 2; mktkt 10 base = ticket 3; mktkt 10 base = ticket 4";
 
 /// Commands that take memory: the rows before one, the command, and how many requests it makes. A new flow takes memory
-/// for its packets, and the first one for the table of the flows: for the two parts of its index, the names, and the
-/// flows. The table of the currencies has as many parts: what is beside its names is empty, but is asked for too. That
-/// of the tickets has one. All parts of a full table grow.
+/// for its packets, and the first one for the table of the flows. That is for the two parts of its index, the names,
+/// and the flows. The table of the currencies has as many parts: what is beside its names is empty, but is asked for
+/// too. That of the tickets has one. All parts of a full table grow.
 const GROWTHS: [(Option<&str>, &str, u16); 6] = [
     (None, "open a 4 1 = flow 1", 5),
     (None, "mkcur x = ok", 4),

@@ -1,10 +1,10 @@
 //! A link drops its packets, and its calls take no memory: no contract sees either. Bodies like these meet every
-//! clause, and the test here sees each of them. `std::mem::forget` in place of a drop: of a shelf by `Link::new`
-//! and of a writer by `Engine::new`, if the life is out of range or a request for memory is refused; of the link
-//! by `into_writer`; of a payload by `arrive`, if the packet is refused, and by `finish`, if it is sent; of a
-//! buffer and its packets, if a flow is closed. A `reserve` in `turn`, or in another call that is to take no
-//! memory. Tokens count the drops of shelves and writers; the rest is seen over the allocator of `.ci/allocator.c`
-//! alone, as `.ci/memory` runs it.
+//! clause, and the test here sees each of them. Some have `std::mem::forget` in place of a drop. They forget a shelf in
+//! `Link::new` and a writer in `Engine::new`, if the life is out of range or a request for memory is refused. They
+//! forget the link in `into_writer`, and a buffer and its packets if a flow is closed. They forget a payload in
+//! `arrive` if the packet is refused, and in `finish` if it is sent. Others have a `reserve` in `turn`, or in another
+//! call that is to take no memory. Tokens count the drops of shelves and writers; the rest is seen over the allocator
+//! of `.ci/allocator.c` alone, as `.ci/memory` runs it.
 
 use super::allocator::{
     REQUESTS, is_refused, keeps_none, mark, refuse, refuse_each, takes_none, was_refused, were_made,
@@ -165,8 +165,8 @@ fn gives_its_parts(rt: &impl Abort, alloc: Global, tokens: &Tokens) {
     keeps_none(rt, "parts", alloc);
 }
 
-/// The commands that take memory, and how many requests each makes on a new link: a flow one for its ring and four for
-/// the table of flows, a currency four for the table of currencies, a ticket one for that of tickets.
+/// The commands that take memory, and how many requests each makes on a new link. A flow makes one for its ring and
+/// four for the table of flows, a currency four for the table of currencies, a ticket one for that of tickets.
 const GROWING: [(&str, u16); 3] = [
     ("open a 4 1 = flow 1", 5),
     ("mkcur x = ok", 4),

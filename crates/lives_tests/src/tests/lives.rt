@@ -7,8 +7,8 @@ use share_transit::{Page, Transit};
 use std::alloc::Global;
 use std::process::Abort;
 
-/// The remainder of a life once its books followed one another: the price of the tariff, the packets of a and b that
-/// were dropped, and those that wait.
+/// The remainder of a life once its books followed one another. It has the price of the tariff, the packets of a and b
+/// that were dropped, and those that wait.
 #[derive(Clone, Copy)]
 struct Row {
     name: &'static str,

@@ -1,4 +1,4 @@
-//! share_flows: worked rows of the buffers, and what they take of memory: places for 64 when they are made, a ring for
+//! share_flows: worked rows of the buffers, and their memory. They take places for 64 when they are made, a ring for
 //! each that is opened, and none after that.
 ghost use Rattle.std.specs.Prelude.{◌≡◌, ◌<◌, ◌^◌, false, length, IfSome, IsTrue};
 ghost use Rattle.share_base.specs.Body.{IsHeaderLength};

@@ -1,5 +1,5 @@
-//! share_ledger: worked figures, limits and orders of refusals, as rows of text; and what a ledger takes of memory: its
-//! cache when it is made, and room for more currencies, tickets and flows if there is none left.
+//! share_ledger: worked figures, limits and orders of refusals, as rows of text. A ledger takes memory for its cache
+//! when it is made, and for room for more currencies, tickets and flows if there is none left.
 
 use crate::tests::allocator::{
     is_steered, keeps_none, lack, mark, refuse, took_none, was_answered, was_refused,
@@ -240,8 +240,8 @@ fn number_of(flow: Option<FlowNo>) -> Option<u64> {
     }
 }
 
-// The number or the tickets of the flow at a place, its number if it is active, or the tickets that each of that many
-// first flows has.
+// The number or the tickets of the flow at a place, or its number if it is active. Or the tickets that each of that
+// many first flows has.
 fn read_place(ledger: &Ledger, verb: &str, first: u64) -> Answer {
     let place = usize::try_from(first).unwrap_or(usize::MAX);
     match verb {
@@ -365,8 +365,8 @@ fn worked_rows_take_no_memory(rt: HostRuntime) {
 }
 
 /// The requests of a new ledger: 6 for the funding tickets of 65 currencies, whose vector grows to 4, 8, 16, 32, 64 and
-/// 128 of them, and 6 for those of 65 flows; 7 for the activity, what is awake, the weights, those that were seen, the
-/// values, the ranks and their order; 1 for the tickets of the flows; and 2 for the routes.
+/// 128 of them. Then 6 for those of 65 flows, 1 for the tickets of the flows, and 2 for the routes. There are 7 for the
+/// activity, the awake places, the weights, those that were seen, the values, the ranks and their order.
 const FOR_A_LEDGER: u16 = 22;
 
 #[test]
@@ -423,7 +423,7 @@ fn grows(
 }
 
 // The requests of the k-th currency or flow, from 0. A map has room for 9, 18, 36 or 72 names, and grows by four
-// requests: the hashes, the groups that find them, the names, and what is kept by them.
+// requests. They are the hashes, the groups that find them, the names, and what is kept by them.
 fn for_a_name(k: u32) -> u16 {
     match k {
         0 | 9 | 18 | 36 => 4,

@@ -1,9 +1,9 @@
 //! share_model: the wrappers of std's readers and writers, how patient a writer is, and the memory of a tape. The
 //! traits of std say nothing of an error's kind, and no contract counts calls. So these wrong bodies meet every clause,
-//! and tests alone see them: an interruption reported as a failure; a failure, of any kind or of one, reported as an
-//! interruption; an end, or 0 accepted bytes, reported as either; no call for more than 4096 or 40000 bytes, or for
-//! none; half of the bytes passed on; a second call after one that was interrupted, failed or accepted nothing; a
-//! flush.
+//! and tests alone see them. One reports an interruption as a failure, or a failure, of any kind or of one, as an
+//! interruption. One reports an end, or 0 accepted bytes, as either. One makes no call for more than 4096 or 40000
+//! bytes, or for none. One passes on half of the bytes. One makes a second call after one that was interrupted, failed
+//! or accepted nothing. One flushes.
 ghost use Rattle.std.specs.Prelude.{◌≤◌, IfOk};
 
 use crate::tests::allocator::{is_steered, keeps_none, mark, refuse, was_refused};
@@ -223,8 +223,8 @@ const OFFERS: u64 = 1_048_577;
 
 const BROKEN: StdAnswer = StdAnswer::Error(ErrorKind::BrokenPipe);
 
-/// The number of times that the writer is interrupted, its answer then, the answer to a piece of three bytes, and the
-/// number of calls in all.
+/// The number of times that the writer is interrupted, and its answer then. Then come the answer to a piece of three
+/// bytes, and the number of calls in all.
 const PATIENCE: [(u64, StdAnswer, Answer, u64); 7] = [
     (0, StdAnswer::All, Answer::Accepted(3), 1),
     (7, StdAnswer::All, Answer::Accepted(3), 8),

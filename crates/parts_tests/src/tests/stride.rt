@@ -13,13 +13,13 @@ use std::process::Abort;
 /// The answer to a row: a number, or nothing, or the refusal of a move.
 type Answer = Result<Option<i128>, &'static str>;
 
-// A row is a move of a flow, with its tickets or its units, or what the queue shows after the rows before it. After
-// ` = ` stands what it answers: `competes` and `rests` the tickets of a flow, `place` its pass or remain, `least` the
-// flow with the least pass, `tickets` those of all flows that compete, `pass` the global pass, and `last` the clock at
-// its last update.
+// A row is a move of a flow, with its tickets or its units, or what the queue shows after the rows before it. The
+// answer is after ` = `. `competes` and `rests` answer the tickets of a flow, `place` its pass or remain, and `least`
+// the flow with the least pass. `tickets` answers those of all flows that compete, `pass` the global pass, and `last`
+// the clock at its last update.
 
-/// Three flows with 3, 2 and 1 tickets compete, and each frame is of 1024 units: which flow is picked, and the figures
-/// of all after the third pick and after the last one.
+/// Three flows with 3, 2 and 1 tickets compete, and each frame is of 1024 units. The rows show the flow that is picked,
+/// and the figures of all after the third pick and after the last one.
 const THREE_FLOWS: &str =
     "add 1; join 1 3; add 2; join 2 2; add 3; join 3 1; stride 1 = 366503875925;
     stride 2 = 549755813888; stride 3 = 1099511627776; least = 1; charge 1 1024; least = 2; charge 2 1024; least = 1;
@@ -209,8 +209,8 @@ fn worked_figures_take_no_memory(rt: HostRuntime) {
     }
 }
 
-/// The requests of a new queue, one each: the flows' keys, the clients, the entries of the heap, and the seats of the
-/// keys in it.
+/// The requests of a new queue, one each. They are for the flows' keys, the clients, the entries of the heap, and the
+/// seats of the keys in it.
 const FOR_A_QUEUE: u16 = 4;
 
 #[test]

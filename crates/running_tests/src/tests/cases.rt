@@ -1,5 +1,5 @@
 //! Worked sessions of running links, served and settled: the answers if something is missing or unsent, and if all is
-//! there; and whole runs, with workers and clerks in threads of their own.
+//! there. Also whole runs, with workers and clerks in threads of their own.
 ghost use Rattle.std.specs.Prelude.{◌≡◌};
 ghost use Rattle.share_journal.specs.Records.{AcceptedNothing};
 
@@ -72,7 +72,7 @@ const OF_EIGHT_CLERKS: &str = "\
     C8 open h 4 1 = 22 flow 8; C8 mktkt 1 base = 23 ticket 8; C8 fund 8 flow h = 24 ok; clerk = no 17 TableFull";
 
 /// A session on a new link with that many places in its queue, workers, clerks and events in its life. First come rows.
-/// Then the link is served while others are played, each in a thread of its own, and while each worker brings a record
+/// Then the link is served while others are played, each in a thread of its own. Meanwhile each worker brings a record
 /// for a flow for each byte. After that come rows again.
 #[derive(Clone, Copy)]
 struct Case<'a> {

@@ -1,7 +1,7 @@
 //! Calls of a link that find no memory, and those that take none, and what it keeps: no contract sees these. Each call
-//! that takes memory is made on a new link again and again: first its first request is refused, then its second, and so
+//! that takes memory is made on a new link again and again. First its first request is refused, then its second, and so
 //! on, until none is refused. Requests are refused by the allocator of `.ci/allocator.c` alone, with which `.ci/memory`
-//! runs this test; with any other the first call succeeds, and no block is seen.
+//! runs this test. With any other the first call succeeds, and no block is seen.
 ghost use Rattle.std.specs.Prelude.{◌≡◌};
 
 use super::allocator::{
@@ -26,7 +26,7 @@ use std::sync::Wait;
 type Writer = PlainWriter<Sink>;
 
 /// Commands that take memory, and how many requests each makes. A flow takes memory for its packets and for four parts
-/// of its table, and a currency for four of its own, of which one is empty.
+/// of its table. A currency takes it for four of its own, of which one is empty.
 const GROWING: [(&str, u16); 3] = [
     ("C1 open a 4 1 = 1 flow 1", 5),
     ("C1 mkcur x = 1 ok", 4),
@@ -48,8 +48,8 @@ const TAKE_NONE: &str = "\
     C1 unfund 1 = 32 ok; C1 fund 1 flow a = 33 ok; C1 close a = 34 closed 1 0 18; entries = 34; capacity = 2; \
     clerk = 2";
 
-/// One of four long packets, which do not stand in the place of a payload, is sent, two stay in the queue, and one
-/// comes back.
+/// Four long packets, which do not stand in the place of a payload. One is sent, two stay in the queue, and one comes
+/// back.
 const SENT: &str = "E1 a x*9000 = 1; admit = 1 1 packet 1 1; turn 65535 = wrote 1 1 9017 whole";
 
 const LEFT: &str = "E1 a x*9000 = 2; E1 a x*9000 = 3; E1 a x*9000 = full";

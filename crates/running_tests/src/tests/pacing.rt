@@ -38,8 +38,8 @@ const OPENED: &str = "\
 
 const HELD: &str = "C1 hold c; pause 1; C1 resume c";
 
-/// After that many packets a worker waits for its connection: each time but one of that many for a millisecond, so
-/// that the link falls asleep.
+/// After that many packets a worker waits for its connection. It waits each time but one of that many for a
+/// millisecond, so that the link falls asleep.
 const PACKETS_A_READ: u64 = 5;
 
 const READS: u64 = 4;

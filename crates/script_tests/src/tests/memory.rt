@@ -111,7 +111,7 @@ fn is_read_at_last(rt: &impl Abort, alloc: Global, version: Version, line: &[u8]
 }
 
 /// Lines that send that many zero bytes and end so, and why they are refused. Memory that is taken for one is given
-/// back with it, and it is for a header and a byte of each pair of digits alone.
+/// back with it. It is for a header and a byte of each pair of digits alone.
 const ENDS: [(usize, &[u8], Option<Refusal>); 4] = [
     (9000, b"", None),
     (9000, b"0", Some(Refusal::Syntax)),
@@ -246,9 +246,10 @@ fn ran(
     }
 }
 
-/// A script of which some lines find no memory. Each of its reads gives a line: its life, the script, the read that
-/// gives the first of these lines, counted from 1, and the read that gives the first line after them, 0 for the
-/// buffers, which are made before the first read; what is printed without memory for them, and what with ample memory.
+/// A script of which some lines find no memory. Each of its reads gives a line. The row has its life, the script, the
+/// read that gives the first of these lines, counted from 1, and the read that gives the first line after them. Read 0
+/// is that of the buffers, which are made before the first read. Last come the texts that are printed without memory
+/// for them, and with ample memory.
 type Row<'a> = (u64, &'a [u8], (usize, usize), &'static [u8], &'static [u8]);
 
 const ROWS: [Row<'static>; 10] = [

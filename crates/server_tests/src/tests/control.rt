@@ -22,8 +22,8 @@ use std::test::Fail;
 /// A life that is not spent.
 const LIFE: u64 = 100;
 
-/// The bytes of a connection, with a bar after what one read gives, and two bars if a read is interrupted; what is
-/// written, with a bar after what one write call takes; and how many commands are made.
+/// The bytes of a connection, with a bar after what one read gives, and two bars if a read is interrupted. Then what is
+/// written, with a bar after what one write call takes, and the number of commands made.
 const CONVERSATIONS: [(&[u8], &[u8], usize); 12] = [
     (b"", b"", 0),
     (b"nonsense\n", b"no 3 Syntax\n|", 0),
@@ -72,8 +72,8 @@ const CONVERSATIONS: [(&[u8], &[u8], usize); 12] = [
 const SESSION: &[u8] =
     b"open a 4 1\nmktkt 1 base\nfund 1 flow a\nturn 1\nmkcur x\nmkcur x\nclose a\n";
 
-/// The answers, and how many commands are made, if that many bytes of the session come: at least the first number,
-/// and fewer than the second.
+/// The answers, and the number of commands made, if that many bytes of the session come. They are at least the first
+/// number, and fewer than the second.
 const CUTS: [(usize, usize, &[u8], usize); 8] = [
     (0, 11, b"", 0),
     (11, 24, b"flow 1\n", 1),
@@ -242,8 +242,8 @@ const WRITES: [(&[u8], &[Taken], &[u8], How, usize); 20] = [
     ),
 ];
 
-/// A reader that gives what is before each bar, at most `most` bytes a call, is interrupted if that is nothing, and may
-/// fail at the end.
+/// A reader that gives what is before each bar, at most `most` bytes a call. It is interrupted if that is nothing, and
+/// may fail at the end.
 #[derive(Drop)]
 struct Pieces<'a> {
     rest: &'a [u8],
@@ -603,7 +603,7 @@ fn has_no_place<T: Wait + Abort, S: Rates + Copy>(
 }
 
 /// The numbers of digits that a packet has in a line: those of 1 byte, of as many bytes as a frame of each version
-/// carries and of one more; as many as a line of 20480 bytes has room for; and more than that.
+/// carries and of one more. Then come as many as a line of 20480 bytes has room for, and more than that.
 const DIGITS: [usize; 8] = [2, 2980, 2982, 18000, 18002, 20472, 20474, 40000];
 
 // Checks that neither a packet, however long, nor a line of more than 20480 bytes has a place.

@@ -313,8 +313,8 @@ fn are_frames(play: Play, bytes: &[u8]) -> bool {
     }
 }
 
-// Checks that a report is that of the link which its audit gives as a script, with these bytes; or, if the uplink was
-// torn, with a beginning of the frames.
+// Checks that a report is that of the link which its audit gives as a script, with these bytes. If the uplink was torn,
+// it is with a beginning of the frames.
 fn audit_gives_the_link<S: Rates + Copy>(
     rt: &impl Abort,
     alloc: Global,

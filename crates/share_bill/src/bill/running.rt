@@ -87,7 +87,7 @@ impl<S: Rates + Drop> Bill<S> {
 }
 
 impl<S: Rates> Bill<S> {
-    /// Takes the next line of the book, without its line feed: it is read, its event is made, and what it sent or
+    /// Takes the next line of the book, without its line feed. It is read, its event is made, and what it sent or
     /// opened is kept. After an error no further line is to be taken.
     pub fn line(&mut self, alloc: Global, bytes: &[u8]) -> Result<(), LineFault>
         ensures takes { MatchResult result (λ _. TakesLine self.old bytes.now self.new)

@@ -26,8 +26,8 @@ pub enum Carried {
 
 impl<S: Rates> NewBook<S> {
     /// Takes over the packets that wait in a closed book, tenant by tenant in the order of the plan, each tenant's in
-    /// their order: each is one event, with its line. A tenant is the same if its name is. Packets beyond the limit of
-    /// a buffer, the latest ones, and those of tenants that the plan lacks stay in the closed book: after `Done` they
+    /// their order. Each is one event, with its line. A tenant is the same if its name is. Packets beyond the limit of
+    /// a buffer, the latest ones, and those of tenants that the plan lacks stay in the closed book. After `Done` they
     /// are dropped with it. It takes no memory, and copies no payload.
     pub fn carry(&mut self, closed: &mut Closed) -> Carried
         ensures carried { Carries self.old.audited self.old.plan.tenants closed.old result self.new.audited closed.new }

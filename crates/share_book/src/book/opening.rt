@@ -17,9 +17,9 @@ use std::alloc::{AllocError, Global};
 pub const TEXT_ROOM: usize = 262144;
 
 impl<S: Rates + Drop> Book<S> {
-    /// A new book over a plan, with a life of this many events and a text of this kind: the plan's opening is made on a
+    /// A new book over a plan, with a life of this many events and a text of this kind. The plan's opening is made on a
     /// new engine. Otherwise, in this order: `Range` if the events are not 131072 to 2^24; `NoMemory` if memory was
-    /// refused; or the first entry of the plan that was refused, and why. The shelf is dropped then.
+    /// refused. Last is the first entry of the plan that was refused, and why. The shelf is dropped then.
     pub fn open(
         alloc: Global,
         plan: &Plan,

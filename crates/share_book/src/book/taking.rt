@@ -14,8 +14,8 @@ use std::alloc::Global;
 
 impl<S: Rates> Book<S> {
     /// Takes a packet of a tenant. Answers, in order: `Range` unless it has 1 to 9000 bytes, `Spent`, `NoText`,
-    /// `NoRoom`, and `NoMemory` if the memory for its payload was refused, which up to 16 bytes do not take. Unless it
-    /// is `Packet` nothing changes.
+    /// `NoRoom`, and `NoMemory` if the memory for its payload was refused. Up to 16 bytes take none. Unless it is
+    /// `Packet` nothing changes.
     pub fn take(&mut self, alloc: Global, tenant: Name, payload: &[u8]) -> Taken
         ensures taken { Takes self.old.audited tenant payload.now result self.new.audited }
         ensures plan { self.new.plan ≡ self.old.plan }

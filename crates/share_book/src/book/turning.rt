@@ -10,7 +10,7 @@ use share_model::Rates;
 
 impl<S: Rates> Book<S> {
     /// Sends the next frame into the outbox, as a whole. Answers, in order: `NoText`, `NoRoom` if the outbox has no
-    /// room for the longest frame, `Spent`, and `Idle` if there is nothing to send; then nothing changes. It takes no
+    /// room for the longest frame, `Spent`, and `Idle` if there is nothing to send. Then nothing changes. It takes no
     /// memory.
     pub fn turn(&mut self, outbox: &mut Outbox) -> Turned
         ensures turned { Turns self.old.audited outbox.old result self.new.audited outbox.new }

@@ -16,8 +16,8 @@ use std::marker::Model;
 /// The longest name, in bytes.
 pub const MAX_NAME: usize = 16;
 
-/// The name of a currency or a flow: a letter from `a` to `z`, and then at most 15 more of these letters,
-/// digits, `_` or `-`. A contract sees it as its bytes.
+/// The name of a currency or a flow. It is a letter from `a` to `z`, and then at most 15 more of these letters, digits,
+/// `_` or `-`. A contract sees it as its bytes.
 #[derive(Clone, Copy, Debug)]
 pub struct Name {
     bytes: [u8; MAX_NAME],

@@ -17,8 +17,8 @@ use share_gateway::opened_links_hold_their_plans;
 /// The shares of tenants hold in each book, whose events are those of `Book::engine`. Take any stretch of them that
 /// begins with no frame in part. Two flows compete before it and after each event of it, each with tickets that stay
 /// the same. The charges to the pass of the one in it are at most the greater of 0 and a sum of three terms. They are
-/// the charges to the pass of the other, the distance by which that pass was ahead at the start, and the largest single
-/// charge of the one.
+/// the charges to the pass of the other, its lead at the start, and the largest single charge of the one. The lead is
+/// the distance by which that pass was ahead.
 pub fn shares_of_books()
     ensures { (a : Audited) (text : IsRunAndText a) → SharesOfEvents a.link.rates text.events }
 {}

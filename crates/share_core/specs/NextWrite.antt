@@ -8,8 +8,8 @@ use Rattle.share_model.specs.link.Turns.{Sending, frame_of, sending, rest_of}
 use Rattle.share_model.specs.link.View.{LinkView}
 use Rattle.share_core.specs.declared.next_write.NextWrite.{NextWrite}
 
--- the flow and the number of the packet, the number of the flow's tariff, how many bytes of the frame are out, and the
--- frame's length. The buffer of the flow stands at the given place
+-- the flow and the number of the packet, the number of the flow's tariff, the bytes of the frame that are out, and its
+-- length. The buffer of the flow stands at the given place
 abbrev pub next_write_of : ℕ → Sending → NextWrite
 next_write_of at s = record {
   buffer = record { flow = s.head.flow; at = at };

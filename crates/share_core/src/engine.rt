@@ -290,10 +290,10 @@ impl<W, S: Rates> Engine<W, S> {
     }
 
     /// Offers the writer the next bytes of the frame that is sent, at most `most` bytes, which is at least 1, in one
-    /// write call. Its answer decides: `Wrote` if it accepted some, `Again` if it was interrupted, which changes
-    /// nothing, and otherwise `Torn`, a fault that breaks the link for good. Nothing is offered if the life is spent,
-    /// the link is broken, or there is nothing to send. The answer is then `Spent`, `Broken` or `Idle`, in this order.
-    /// It takes no memory.
+    /// write call. Its answer decides. The turn is `Wrote` if it accepted some, and `Again` if it was interrupted,
+    /// which changes nothing. Otherwise it is `Torn`, a fault that breaks the link for good. Nothing is offered if the
+    /// life is spent, the link is broken, or there is nothing to send. The answer is then `Spent`, `Broken` or `Idle`,
+    /// in this order. It takes no memory.
     pub fn turn(&mut self, most: u32) -> Turn
     where
         W: TellingWriter,

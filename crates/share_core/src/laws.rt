@@ -24,7 +24,7 @@ pub fn idle_links_are_done<W, S: Rates>(engine: &Engine<W, S>)
 /// any, and each makes an event or none. No frame is in part before the first call. Two flows, `one` and `other`,
 /// compete before it and after each call, and the tickets of each stay the same. By the answers of `position`, the gain
 /// of `one` in the chain is at most the greater of 0 and a sum of three terms. They are the gain of `other`, the
-/// distance by which `other` was ahead at the start, and the largest gain of `one` in a single call.
+/// distance that `other` was ahead at the start, and the largest gain of `one` in a single call.
 pub fn shares_of_calls<W: TellingWriter, S: Rates>(engine: &Engine<W, S>)
     ensures { SharesAreKept W.answers engine.now }
 {

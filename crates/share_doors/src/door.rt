@@ -38,8 +38,8 @@ pub enum Filled {
 }
 
 /// The door of a tenant: its connections and its packet ports. A contract sees the tenant and its flow, and how much
-/// was taken. It sees how many packets of packet ports were read and how many were dropped, how many were given to
-/// deliver, and how often one was lost.
+/// was taken. It sees the number of packets of packet ports that were read, and the number dropped. It also sees the
+/// number given to deliver, and the number lost.
 pub struct Door {
     tenant: Name,
     flow: FlowNo,

@@ -2,8 +2,8 @@
 ghost use Rattle.std.specs.Prelude.{◌≡◌};
 ghost use Rattle.share_downlink.specs.Given.{counted, no_counts};
 
-/// The counts of the frames that came: how many there were, how many bytes they have, and how many of them had the
-/// number of no tenant. Counts stay at 2^64 - 1 once they are there.
+/// The counts of the frames that came: their number, their bytes, and the number of those that had the number of no
+/// tenant. Counts stay at 2^64 - 1 once they are there.
 #[derive(Clone, Copy, Debug, PartialEq, Eq)]
 pub struct Counts {
     pub frames: u64,

@@ -26,8 +26,8 @@ pub struct Place {
     pub at: usize,
 }
 
-/// A buffer for each open flow. A contract sees them as a list in order of opening: each with its flow, its limit, the
-/// next sequence number and, of each packet that it holds, the payload and the bytes stamped before it.
+/// A buffer for each open flow. A contract sees them as a list in order of opening. Each has its flow, its limit and
+/// the next sequence number. It has the payload of each packet that it holds, and the bytes stamped before it.
 pub struct Buffers {
     alloc: Global,
     rings: Vec<Ring>,

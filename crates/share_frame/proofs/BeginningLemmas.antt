@@ -1,5 +1,5 @@
--- Bytes whose fields are good as far as they are there: they are the beginning of a frame, since they go on with the
--- bytes of a header in which each number is 1.
+-- Bytes whose fields are good as far as they are there are the beginning of a frame. They go on with the bytes of a
+-- header in which each number is 1.
 use Rattle.std.specs.Prelude.{◌≡◌, ◌<◌, ◌≤◌, ◌-◌, ℕ, true, List, [], ◌∷◌, ◌++◌, length, take, drop}
 use Rattle.std.specs.List.{list_all}
 use Rattle.std.proofs.Common.{◌∙◌, refl, sym, ap, subst, suc, zero, get_or, inl, inr, length-append, arith}

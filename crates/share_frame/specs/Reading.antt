@@ -1,5 +1,5 @@
--- The reading of bytes by the grammar of frames of a version: they begin with a frame, they are the beginning of
--- one, or they have a field that no frame has. A beginning of a frame is never the whole.
+-- The reading of bytes by the grammar of frames of a version. They begin with a frame, they are the beginning of one,
+-- or they have a field that no frame has. A beginning of a frame is never the whole.
 use Rattle.std.specs.Prelude.{◌≡◌, ◌⊎◌, ℕ, List, ◌++◌, length, take}
 use Rattle.share_base.specs.Version.{header_length}
 use Rattle.share_base.specs.declared.version.Version.{Version}

@@ -42,8 +42,8 @@ const FIELDS: [Field; 6] = [
 ];
 
 impl Field {
-    /// The number of bytes before the field in a frame of this version: 0, 1, 2, 3, 7 or 15 in version 2, and 0, 1, 2,
-    /// 6 or 10 in version 1. In version 1 it is 2 for the tariff, which has no bytes there.
+    /// The number of bytes before the field in a frame of this version. It is 0, 1, 2, 3, 7 or 15 in version 2. It is
+    /// 0, 1, 2, 6 or 10 in version 1. In version 1 it is 2 for the tariff, which has no bytes there.
     pub fn start(self, version: Version) -> usize
         ensures { result ≡ start_of version self }
     {

@@ -19,8 +19,8 @@ pub(crate) const VERSION: u8 = 1;
 
 pub(crate) const VERSION2: u8 = 2;
 
-/// The first 12 bytes of a frame of version 1: two that name the format and its version, the flow number, the sequence
-/// number, and `len`, the length of the payload. Numbers are big-endian. It takes no memory.
+/// The first 12 bytes of a frame of version 1. Two name the format and its version. Then come the flow number, the
+/// sequence number, and `len`, the length of the payload. Numbers are big-endian. It takes no memory.
 pub fn header(flow: FlowNo, seq: u32, len: u16) -> [u8; HEADER]
     // No tariff is in it, so this holds of each.
     ensures bytes { (tariff : ℕ) → result ≡ header One tariff flow seq len }
@@ -35,8 +35,8 @@ pub fn header(flow: FlowNo, seq: u32, len: u16) -> [u8; HEADER]
     [MAGIC, VERSION, a, b, c, d, e, f, g, h, i, j]
 }
 
-/// The first 17 bytes of a frame of version 2: as in version 1, but the number of the flow's tariff is before the flow
-/// number, and the sequence number has eight bytes. It takes no memory.
+/// The first 17 bytes of a frame of version 2. They are as in version 1, but the number of the flow's tariff is before
+/// the flow number, and the sequence number has eight bytes. It takes no memory.
 pub fn header2(flow: FlowNo, seq: u64, tariff: u8, len: u16) -> [u8; HEADER2]
     ensures bytes { result ≡ header Two tariff flow seq len }
 

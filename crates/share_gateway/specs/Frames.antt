@@ -18,7 +18,7 @@ pub record GivesFrame (old : List ℕ) (tariff : ℕ) (packet : Packet) (new : L
   pub fits : FitsFrame Two tariff packet
   pub bytes : old ≡ frame Two tariff packet ++ new
 
--- the answer that is right, and what it leaves: the packet of the frame in front is given; or the bytes are the
+-- the answer that is right, and what it leaves. The packet of the frame in front is given; or the bytes are the
 -- beginning of one, and not the whole; or this is the first field that no frame has
 abbrev pub CutsFrame : FramesView → FrameCut → FramesView → Type 0
 CutsFrame old (Frame flow seq tariff) new =
@@ -50,8 +50,8 @@ pub record AreFrames (stream : List ℕ) (packets : List Framed) (rest : List �
   pub good : Each (λ (f : Framed). FitsFrame Two f.tariff f.packet) packets
   pub bytes : stream ≡ framed_bytes packets ++ rest
 
--- The calls from the beginning on: the bytes that were fed, one piece after the other; the packets that were given; and
--- the bytes that were not given yet.
+-- The calls from the beginning on. They have the bytes that were fed, one piece after the other, the packets that were
+-- given, and the bytes that were not given yet.
 pub data Reads : List ℕ → List Framed → List ℕ → Type 0 where
   began : Reads [] [] []
   fed : (stream : List ℕ) (packets : List Framed) (bytes : List ℕ) → Reads stream packets bytes

@@ -61,8 +61,8 @@ first_refused rates p = slice_get (refused_among (opening p) (opening_outcomes r
 abbrev pub is_book_life : ℕ → Bool
 is_book_life events = nat_le 131072 events && nat_le events (2 ^ 24)
 
--- the link has the tariffs and the life that were asked for, none of the opening's commands was refused, and what the
--- link holds is what they left; they are its run
+-- the link has the tariffs and the life that were asked for. None of the opening's commands was refused, and the link
+-- holds what they left. They are its run
 pub record IsOpened (rates : List Rate) (p : PlanView) (events : ℕ) {W : Type 0} (link : LinkView W) : Type 0 where
   pub life : link.life ≡ events
   pub rates_are : link.rates ≡ rates

@@ -1,5 +1,5 @@
--- The view of an outbox in contracts, and the effects of its calls. An outbox holds frames on their way to the wire:
--- they leave in the order in which they came, byte by byte, and stay until their last byte is out.
+-- The view of an outbox in contracts, and the effects of its calls. An outbox holds frames on their way to the wire.
+-- They leave in the order in which they came, byte by byte, and stay until their last byte is out.
 use Rattle.std.specs.Prelude.{◌≡◌, ℕ, ◌+◌, ◌-◌, ◌==◌, min, Bool, true, false, ◌&&◌, nat_lt, nat_le, if◌then◌else◌}
 use Rattle.std.specs.Prelude.{List, [], ◌∷◌, ◌++◌, length, map, take, drop}
 use Rattle.std.specs.List.{concat}
@@ -7,8 +7,8 @@ use Rattle.share_model.specs.declared.writer.Answer.{Answer}
 use Rattle.share_model.specs.declared.writer.Answer.TheVariants.{Accepted, Interrupted, Failed}
 use Rattle.share_model.specs.io.Told.{Told}
 
--- the frames that are not out whole; how many bytes of the first of them are out; and how many bytes of them, from the
--- beginning of the first on, may be out
+-- the frames that are not out whole, and the number of bytes of the first of them that are out. Then the number of
+-- bytes, from its beginning on, that may be out
 pub record OutboxView : Type 0 where
   pub frames : List (List ℕ)
   pub out : ℕ

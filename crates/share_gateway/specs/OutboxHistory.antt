@@ -4,8 +4,9 @@ use Rattle.std.specs.List.{concat}
 use Rattle.share_gateway.specs.Outbox.{OutboxView, empty_outbox, with_frame, allow_more, ready_of, send_more}
 use Rattle.share_gateway.specs.Outbox.{begun_again}
 
--- The calls of an outbox from its beginning on: the frames that went in; how many bytes were allowed; what was given
--- out before each `again`, the earliest first; what was given out since the last one; and the outbox as it is.
+-- The calls of an outbox from its beginning on. They have the frames that went in, and the number of bytes allowed.
+-- Then the bytes given out before each `again`, the earliest first, and those given out since the last one. Last the
+-- outbox as it is.
 pub data History : List (List ℕ) → ℕ → List (List ℕ) → List ℕ → OutboxView → Type 0 where
   began : History [] 0 [] [] empty_outbox
   put : (frames : List (List ℕ)) (allowed : ℕ) (before : List (List ℕ)) (given : List ℕ) (o : OutboxView)
@@ -26,8 +27,8 @@ abbrev pub IsWithinFirst : ℕ → List (List ℕ) → Type 0
 IsWithinFirst n [] = n ≡ 0
 IsWithinFirst n (frame ∷ frames) = (n ≡ 0) ⊎ (n < length frame)
 
--- The first of these frames are gone, and these are left: their bytes were given out whole, in order, and then a proper
--- beginning of the first frame that is left.
+-- The first of these frames are gone, and these are left. The bytes of those that are gone were given out whole, in
+-- order, and then a proper beginning of the first frame that is left.
 pub record IsPart (frames : List (List ℕ)) (given : List ℕ) (left : List (List ℕ)) : Type 0 where
   pub gone : List (List ℕ)
   pub cut : ℕ

@@ -38,9 +38,9 @@ planned_book t = record { flow = t.flow; tariff = t.tariff; account = 0; held = 
 abbrev pub name_of_currency : CurrencyView → NameBytes
 name_of_currency c = c.name
 
--- the link has the plan's currencies; for each tenant a flow with its number, an empty buffer with its limit, and a
--- book with its tariff that is held if the tenant is; and for each grant a ticket with its amount and denomination,
--- which funds what the grant is to: all of them, no others, and in the plan's order
+-- the link has the plan's currencies. For each tenant it has a flow with its number, an empty buffer with its limit,
+-- and a book with its tariff. The book is held if the tenant is. For each grant it has a ticket with its amount and
+-- denomination, which funds what the grant is to. They are all of them, no others, and in the plan's order
 pub record HoldsPlan (p : PlanView) (l : Live) : Type 0 where
   pub currencies : l.graph.currencies ≡ map name_of_currency p.currencies
   pub flows : l.graph.flows ≡ map planned_flow p.tenants

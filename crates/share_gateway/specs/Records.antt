@@ -5,7 +5,7 @@ use Rattle.share_ingress.specs.Found.{NeedsMore}
 use Rattle.share_gateway.specs.declared.records.Cut.{Cut}
 use Rattle.share_gateway.specs.declared.records.Cut.TheVariants.{Item as ItemCut, More, Bad}
 
--- the name of the tenant; the bytes of the stream that were not given yet; and the payload that was given last, until
+-- the name of the tenant; the bytes of the stream that were not given yet. Then the payload that was given last, until
 -- more of the stream comes
 pub record RecordsView : Type 0 where
   pub name : List ℕ
@@ -36,15 +36,15 @@ pub record GivesItem (old new : RecordsView) : Type 0 where
   pub bytes : old.bytes ≡ record_of (item_for old.name new.payload) ++ new.bytes
   pub name : new.name ≡ old.name
 
--- the answer that is right, and what it leaves: the record in front is given; or no record is whole, and none of its
--- fields that are whole is bad; or one is out of its range, or the name of another
+-- the answer that is right, and what it leaves. The record in front is given. Or no record is whole, and none of its
+-- fields that are whole is bad. Or one is out of its range, or the name of another
 abbrev pub CutsRecord : RecordsView → Cut → RecordsView → Type 0
 CutsRecord old ItemCut new = GivesItem old new
 CutsRecord old More new = NeedsMore old.bytes × NamesOnly old.name old.bytes × (new ≡ old)
 CutsRecord old Bad new = (IsBad old.bytes ⊎ NamesOther old.name old.bytes) × (new ≡ old)
 
--- The calls for a tenant from the beginning on: the bytes that were fed, one piece after the other; the payloads that
--- were given; and the bytes that were not given yet.
+-- The calls for a tenant from the beginning on. They have the bytes that were fed, one piece after the other, the
+-- payloads that were given, and the bytes that were not given yet.
 pub data Reads (name : List ℕ) : List ℕ → List (List ℕ) → List ℕ → Type 0 where
   began : Reads name [] [] []
   fed : (stream : List ℕ) (payloads : List (List ℕ)) (bytes : List ℕ) → Reads name stream payloads bytes

@@ -29,8 +29,8 @@ pub enum NotOpened {
 }
 
 /// A new engine of version 2 with a life of this many events, on which the plan's opening was made. Otherwise, in this
-/// order: `Range` if the events are not 131072 to 2^24; `NoMemory` if memory was refused; or the first entry of the
-/// plan that was refused, and why. The shelf is dropped then.
+/// order: `Range` if the events are not 131072 to 2^24; `NoMemory` if memory was refused. Last is the first entry of
+/// the plan that was refused, and why. The shelf is dropped then.
 pub fn open_engine<S: Rates + Drop>(
     alloc: Global,
     plan: &Plan,

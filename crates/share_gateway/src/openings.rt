@@ -40,8 +40,8 @@ struct GrantCursor {
     ticket: u64,
 }
 
-// The next item of each section of an opening: the index of a currency, a flow, a grant, and the index from which on
-// tenants are held.
+// The next item of each section of an opening. It has the index of a currency, a flow, a grant, and the index from
+// which on tenants are held.
 #[derive(Clone, Copy)]
 struct Sections {
     currency: usize,
@@ -91,9 +91,9 @@ impl<'a> Model for OpeningCommands<'a> {
     ghost invariant = { λ o. NumbersFit o.plan.now o.sections.grants };
 }
 
-/// The commands of the plan's opening, one after the other: each currency is made; each flow number from 1 to the
-/// greatest is opened, and closed again if no tenant has it; for each grant a ticket is made, and funds; and each
-/// tenant that is held is held. It takes no memory.
+/// The commands of the plan's opening, one after the other. Each currency is made. Each flow number from 1 to the
+/// greatest is opened, and closed again if no tenant has it. For each grant a ticket is made, and funds. Each tenant
+/// that is held is held. It takes no memory.
 pub fn opening(plan: &Plan) -> OpeningCommands<'_>
     ensures { result ≡ opening plan.entry.now }
 {

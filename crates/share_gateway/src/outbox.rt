@@ -199,7 +199,7 @@ impl TellingWriter for Outbox {
 }
 
 /// Laws of the whole life of each outbox. The bytes between one `again` and the next are frames that went in, whole and
-/// in order, and then a proper beginning of the frame after them. It goes on with that frame, from its beginning, and
+/// in order. Then comes a proper beginning of the frame after them. It goes on with that frame, from its beginning, and
 /// none is left out. No byte is given out beyond those that were allowed.
 pub fn outboxes_give_frames_in_order()
     ensures parts { (frames : List (List ℕ)) (allowed : ℕ) (before : List (List ℕ)) (given : List ℕ) (o : OutboxView)

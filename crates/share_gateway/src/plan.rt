@@ -40,7 +40,7 @@ impl Model for Currency {
     ghost view = { λ c. record { name = c.name; grants = c.grants.items } };
 }
 
-/// A tenant of a plan: the name and the number of its flow, the limit of its buffer, its tariff, its grants, and
+/// A tenant of a plan. It has the name and the number of its flow, the limit of its buffer, its tariff, its grants, and
 /// whether it is held.
 #[derive(Drop)]
 pub struct Tenant {
@@ -132,8 +132,8 @@ impl Model for Plan {
 
 impl Plan {
     /// A plan of these currencies and tenants. Faults, in order: the flow numbers of the tenants do not ascend from 1
-    /// to at most 1024; a tenant is called `gap`; a tenant has the name of a currency; more than 65536 commands make
-    /// the currencies and the tickets, and fund with these. It takes no memory; what is no plan is dropped.
+    /// to at most 1024; a tenant is called `gap`. Then a tenant has the name of a currency; more than 65536 commands
+    /// make the currencies and the tickets, and fund with these. It takes no memory; what is no plan is dropped.
     pub fn new(currencies: Vec<Currency>, tenants: Vec<Tenant>) -> Result<Plan, PlanFault>
         ensures ok { IfOk result (λ p.
             (p ≡ record { currencies = currencies.items; tenants = tenants.items })

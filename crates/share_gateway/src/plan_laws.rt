@@ -6,9 +6,9 @@ ghost use Rattle.share_gateway.specs.Opened.{first_refused, opened_link};
 ghost use Rattle.share_gateway.specs.Planned.{HoldsPlan};
 
 /// Take a link on which a plan was opened, none of whose commands was refused. It has the plan's currencies. For each
-/// tenant it has a flow with its number, an empty buffer with its limit, and a book with its tariff that is held if the
-/// tenant is. For each grant it has a ticket with its amount and denomination that funds the grantee. It has no others.
-/// All of them stand in the plan's order, and tickets are numbered from 1 in this order.
+/// tenant it has a flow with its number, and an empty buffer with its limit. The tenant's book has its tariff, and is
+/// held if the tenant is. For each grant it has a ticket with its amount and denomination that funds the grantee. It
+/// has no others. All of them stand in the plan's order, and tickets are numbered from 1 in this order.
 pub fn opened_links_hold_their_plans()
     ensures { (rates : List Rate) (p : PlanView) → IsInLimits p → first_refused rates p ≡ None
         → HoldsPlan p (opened_link rates p) }

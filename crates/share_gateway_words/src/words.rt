@@ -50,9 +50,8 @@ fn command_line<'a>(alloc: Global) -> Result<Command<'a>, AllocError> {
     with_subcommand(command, bill_command(alloc))
 }
 
-// The request in the words of `gateway`, or the fault of the words. `clap` refuses a grace that is out of range; but
-// its contract says so only of the arguments of a command, and not of those of a subcommand, so it is tested once
-// more.
+// The request in the words of `gateway`, or the fault of the words. `clap` refuses a grace that is out of range. But
+// its contract says so only of the arguments of a command, and not of those of a subcommand, so it is tested once more.
 fn gateway_asked<'a>(orders: GatewayOrders<'a>) -> Result<Asked<'a>, &'static str>
     ensures { IfOk result CanBeObeyed }
 {

@@ -11,8 +11,8 @@ use Rattle.share_ingress.specs.Names.{LinkName}
 use Rattle.share_ingress.specs.declared.ends.Offered.{Offered}
 use Rattle.share_ingress.specs.declared.ends.Offered.TheVariants.{Queued, Full}
 
--- the name of the queue, how many offers it holds at most, the worker, what this end pushed, and how many of its offers
--- a full queue refused
+-- the name of the queue, the most offers that it holds, the worker, the pushed offers, and the number of offers that a
+-- full queue refused
 pub record EndView : Type 0 where
   pub link : LinkName
   pub capacity : ℕ
@@ -20,8 +20,9 @@ pub record EndView : Type 0 where
   pub pushed : List Offer
   pub refused : ℕ
 
--- the name of the queue, how many offers it holds at most, how many workers it has, what was popped, what it held just
--- after the last pop, the workers whose ends were joined to the intake, and how many pops found nothing
+-- the name of the queue, the most offers that it holds, and the number of its workers. Then what was popped, and what
+-- it held just after the last pop. Last the workers whose ends were joined to the intake, and the number of pops that
+-- found nothing
 pub record IntakeView : Type 0 where
   pub link : LinkName
   pub capacity : ℕ
@@ -93,8 +94,8 @@ with_refusal e = record e { refused = one_higher e.refused }
 abbrev pub with_miss : IntakeView → IntakeView
 with_miss i = record i { missed = one_higher i.missed }
 
--- an offer came back: the queue was full at some moment, when it held of this worker what this end pushed last, and
--- that is counted; or the end has pushed 2^40 offers, and the queue was not asked
+-- an offer came back. The queue was full at some moment, when it held of this worker what this end pushed last, and
+-- that is counted. Or the end has pushed 2^40 offers, and the queue was not asked
 abbrev pub CameBack : EndView → EndView → Type 0
 CameBack old new =
     ((length old.pushed ≡ 2 ^ 40) × (new ≡ old))

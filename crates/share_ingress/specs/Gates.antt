@@ -63,8 +63,8 @@ pub record Drops {G : Type 0} (told : G → GateCall → G → Type 0) (e : EndV
   pub answered : told asked (queue_full again) last
   pub reason : MayDrop why again left
 
--- items were queued one after the other: the gate was called before each was offered and when it was queued, and
--- between these once for each of its offers that came back; the second number is how often that was in all
+-- items were queued one after the other. The gate was called before each was offered and when it was queued, and
+-- between these once for each of its offers that came back. The second number is how often that was in all
 pub data Queueing {G : Type 0} (told : G → GateCall → G → Type 0) (start : EndView) (first : G)
     : ℕ → ℕ → EndView → G → Type 0 where
   none_queued : Queueing told start first 0 0 start first
@@ -107,8 +107,8 @@ module _ {R G : Type 0} (gives : R → List ℕ → Got → R → Type 0) (told 
   Finishes n e now first Stopped end last left = DropsNext n e now Stopped first end last left
   Finishes n e now first NotStarted end last left = ⊥
 
-  -- a worker queued `tally` items, stopped for this reason and left its reader so: the calls of its reader and of its
-  -- gate, and the turns that were used up
+  -- a worker queued `tally` items, stopped for this reason and left its reader so. Then come the calls of its reader
+  -- and of its gate, and the turns that were used up
   pub record WorkerRan (reader : Reading R) (start : EndView) (gate : G) (tally : ℕ) (why : Why) (end : EndView)
       (last : G)
       (left : Reading R) : Type 0 where

@@ -12,8 +12,8 @@ use Rattle.share_ingress.specs.Found.{BeginsWhole, NeedsMore}
 use Rattle.share_ingress.specs.declared.reader.Next.{Next}
 use Rattle.share_ingress.specs.declared.reader.Next.TheVariants.{Item as Found, Ended as Over}
 
--- the reader below, the bytes that were read and not given yet, the reads that it may still make, and how it ended, if
--- it did
+-- the reader below, the bytes that were read and not given yet, the reads that it may still make, and its end, if it
+-- has one
 pub record Reading (R : Type 0) : Type 0 where
   pub reader : R
   pub held : List ℕ
@@ -67,7 +67,7 @@ module _ {R : Type 0} (gives : R → List ℕ → Got → R → Type 0) where
   abbrev pub Gave : Got → R → Type 0
   Gave got reader = (before : R) × (buffer : List ℕ) × gives before buffer got reader
 
-  -- why it ended so, in this call or an earlier one: the last read found the end, or failed; memory was asked for; or
+  -- why it ended so, in this call or an earlier one. The last read found the end, or failed; memory was asked for; or
   -- no turn was left
   abbrev pub EndStands : Reading R → Ended → Type 0
   EndStands r End = (r.held ≡ []) × Gave EndOfInput r.reader

@@ -12,8 +12,8 @@ abbrev pub offers_of : ℕ → ℕ → List Item → List Offer
 offers_of worker k [] = []
 offers_of worker k (i ∷ is) = offer worker (suc k) i.name i.payload ∷ offers_of worker (suc k) is
 
--- the items are those at the front of the bytes: all of them if the reader ended; not all if the worker was stopped;
--- none if it was not started
+-- the items are those at the front of the bytes. They are all of them if the reader ended; not all if the worker was
+-- stopped; none if it was not started
 abbrev pub Queues : List ℕ → List Item → Why → Type 0
 Queues bytes items (Over ended) = IsRecords bytes items ended
 Queues bytes items Stopped = (next : Item) × (rest : List ℕ) × Front bytes (items ++ next ∷ []) rest

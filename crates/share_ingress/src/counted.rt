@@ -1,5 +1,5 @@
-//! A side of a queue under a rule, with a count of what the queue refused: pops that found nothing, or pushes that
-//! found it full.
+//! A side of a queue under a rule, with a count of what the queue refused. That is pops that found nothing, or pushes
+//! that found it full.
 //!
 //! All pops and pushes go through this module. Its functions are generic in the rule and in what a call learns. So none
 //! of them can invent what it says of the queue, and no other module can raise the count. No contract rules out one

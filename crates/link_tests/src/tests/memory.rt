@@ -166,7 +166,8 @@ fn gives_its_parts(rt: &impl Abort, alloc: Global, tokens: &Tokens) {
 }
 
 /// The commands that take memory, and how many requests each makes on a new link. A flow makes one for its ring and
-/// four for the table of flows, a currency four for the table of currencies, a ticket one for that of tickets.
+/// four for the table of flows. A currency makes four for the table of currencies, and a ticket one for that of
+/// tickets.
 const GROWING: [(&str, u16); 3] = [
     ("open a 4 1 = flow 1", 5),
     ("mkcur x = ok", 4),

@@ -364,9 +364,10 @@ fn worked_rows_take_no_memory(rt: HostRuntime) {
     }
 }
 
-/// The requests of a new ledger: 6 for the funding tickets of 65 currencies, whose vector grows to 4, 8, 16, 32, 64 and
-/// 128 of them. Then 6 for those of 65 flows, 1 for the tickets of the flows, and 2 for the routes. There are 7 for the
-/// activity, the awake places, the weights, those that were seen, the values, the ranks and their order.
+/// The requests of a new ledger. There are 6 for the funding tickets of 65 currencies, whose vector grows to 4, 8, 16,
+/// 32, 64 and 128 of them. There are 6 for those of 65 flows, 1 for the tickets of the flows, and 2 for the routes.
+/// There are 7 for the activity, the awake places, the weights, those that were seen, the values, the ranks and their
+/// order.
 const FOR_A_LEDGER: u16 = 22;
 
 #[test]

@@ -246,10 +246,10 @@ fn ran(
     }
 }
 
-/// A script of which some lines find no memory. Each of its reads gives a line. The row has its life, the script, the
-/// read that gives the first of these lines, counted from 1, and the read that gives the first line after them. Read 0
-/// is that of the buffers, which are made before the first read. Last come the texts that are printed without memory
-/// for them, and with ample memory.
+/// A script of which some lines find no memory. Each of its reads gives a line. The row has its life and the script.
+/// Then come the read that gives the first of these lines, counted from 1, and the read that gives the first line after
+/// them. Read 0 is that of the buffers, which are made before the first read. Last come the texts that are printed
+/// without memory for them, and with ample memory.
 type Row<'a> = (u64, &'a [u8], (usize, usize), &'static [u8], &'static [u8]);
 
 const ROWS: [Row<'static>; 10] = [

@@ -602,8 +602,8 @@ fn has_no_place<T: Wait + Abort, S: Rates + Copy>(
     Ok(())
 }
 
-/// The numbers of digits that a packet has in a line: those of 1 byte, of as many bytes as a frame of each version
-/// carries and of one more. Then come as many as a line of 20480 bytes has room for, and more than that.
+/// The numbers of digits that a packet has in a line. First come those of 1 byte, and of as many bytes as a frame of
+/// each version carries and of one more. Then come as many as a line of 20480 bytes has room for, and more than that.
 const DIGITS: [usize; 8] = [2, 2980, 2982, 18000, 18002, 20472, 20474, 40000];
 
 // Checks that neither a packet, however long, nor a line of more than 20480 bytes has a place.

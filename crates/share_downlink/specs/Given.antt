@@ -48,8 +48,8 @@ abbrev pub offset_after : ℕ → List Framed → ℕ
 offset_after offset [] = offset
 offset_after offset (f ∷ fs) = offset_after (capped (offset + frame_size f.packet.payload)) fs
 
--- the view of the frames of a connection in contracts. It has the bytes of its stream that were not given, the payload
--- that was cut last, and the offset in the stream of the bytes that were not given
+-- the view of the frames of a connection in contracts. It has the bytes of its stream that were not given, their offset
+-- in the stream, and the payload that was cut last
 pub record IncomingView : Type 0 where
   pub bytes : List ℕ
   pub payload : List ℕ

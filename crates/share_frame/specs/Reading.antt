@@ -47,7 +47,7 @@ end_of version Flow = start_of version Seq
 end_of version Seq = start_of version Len
 end_of version Len = header_length version
 
--- the first field that no frame has: the bytes before it are the beginning of a frame; with it, or with the part of it
+-- the first field that no frame has. The bytes before it are the beginning of a frame. With it, or with the part of it
 -- that is there, they are not
 pub record IsFirstBad (version : Version) (place : Field) (bytes : List ℕ) : Type 0 where
   pub before : IsBeginning version (take (start_of version place) bytes)

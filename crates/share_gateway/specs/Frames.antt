@@ -18,7 +18,7 @@ pub record GivesFrame (old : List ℕ) (tariff : ℕ) (packet : Packet) (new : L
   pub fits : FitsFrame Two tariff packet
   pub bytes : old ≡ frame Two tariff packet ++ new
 
--- the answer that is right, and what it leaves. The packet of the frame in front is given; or the bytes are the
+-- the answer that is right, and what it leaves. The packet of the frame in front is given. Or the bytes are the
 -- beginning of one, and not the whole; or this is the first field that no frame has
 abbrev pub CutsFrame : FramesView → FrameCut → FramesView → Type 0
 CutsFrame old (Frame flow seq tariff) new =

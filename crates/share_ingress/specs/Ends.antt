@@ -11,8 +11,8 @@ use Rattle.share_ingress.specs.Names.{LinkName}
 use Rattle.share_ingress.specs.declared.ends.Offered.{Offered}
 use Rattle.share_ingress.specs.declared.ends.Offered.TheVariants.{Queued, Full}
 
--- the name of the queue, the most offers that it holds, the worker, the pushed offers, and the number of offers that a
--- full queue refused
+-- the name of the queue, the most offers that it holds, the worker, the pushed offers, and the number that a full queue
+-- refused
 pub record EndView : Type 0 where
   pub link : LinkName
   pub capacity : ℕ

@@ -12,8 +12,7 @@ use Rattle.share_ingress.specs.Found.{BeginsWhole, NeedsMore}
 use Rattle.share_ingress.specs.declared.reader.Next.{Next}
 use Rattle.share_ingress.specs.declared.reader.Next.TheVariants.{Item as Found, Ended as Over}
 
--- the reader below, the bytes that were read and not given yet, the reads that it may still make, and its end, if it
--- has one
+-- the reader below, the bytes read and not given yet, the reads that it may still make, and its end, if it has one
 pub record Reading (R : Type 0) : Type 0 where
   pub reader : R
   pub held : List ℕ

@@ -18,7 +18,7 @@ const CHUNK: usize = 65536;
 /// The length of the longest record in bytes.
 const LONGEST: usize = FRAMING + MAX_NAME + MAX_PAYLOAD;
 
-/// The most bytes kept before a read: a part of a record, and what was given before it, which the buffer drops once it
+/// The most bytes kept before a read: a part of a record, and what was given before it. The buffer drops that once it
 /// is no less than the part. So a buffer with room for these and for one read never grows.
 const CARRIED: usize = 2 * LONGEST;
 
@@ -78,10 +78,11 @@ impl<R: TellingReader + Drop> IngressReader<R> {
 }
 
 impl<R: TellingReader> IngressReader<R> {
-    /// The next item of the stream, or why there is none: `End` after a whole record or in an empty stream, `Cut`
-    /// inside a record, `BadRecord` at a field out of its range, `Fault` if a read failed, `NoMemory` if memory was
-    /// refused, `Bound` if all reads were used up and one more was needed. Once there is no next item, each further
-    /// call gives the same answer, and reads nothing.
+    /// The next item of the stream, or why there is none. The stream ends with `End` after a whole record or in an
+    /// empty stream, and with `Cut` inside a record. It ends with `BadRecord` at a field out of its range, and with
+    /// `Fault` if a read failed. It ends with `NoMemory` if memory was refused, and with `Bound` if all reads were used
+    /// up and one more was needed. Once there is no next item, each further call gives the same answer, and reads
+    /// nothing.
     ///
     /// A record is the length of a name in one byte, the name, the length of a payload in two bytes, big-endian, and
     /// the payload. An interrupted read is made again; each read is counted.

@@ -38,7 +38,7 @@ impl<R: TellingReader, G: Gate> Promise<Done<G>> for WorkOf<R, G> {
 // A worker at work, or what is left of one that was not started.
 type Begun<R, G> = Result<PromisedHandle<Done<G>, WorkOf<R, G>>, Done<G>>;
 
-/// Runs each job in a thread of its own, joins all, and gives what they leave, in the order of the jobs: each end is of
+/// Runs each job in a thread of its own, joins all, and gives what they leave, in the order of the jobs. Each end is of
 /// its job's queue. A job whose thread is refused is not started: its reader is dropped. If there is no memory for the
 /// results, no job is started, and all come back.
 pub fn run_workers<T, R, G>(

@@ -21,8 +21,8 @@ pub record RecorderView (W : Type 0) : Type 0 where
   pub link : LinkView W
   pub entries : List Entry
 
--- the events are a run of a link of this version, with these replies, and the link holds what the run left; and if
--- the writer reports, it holds the bytes of the run, and these are the counts that it accepted, but those of 0
+-- the events are a run of a link of this version, with these replies. The link holds what the run left. If the writer
+-- reports, it holds the bytes of the run, and these are the counts that it accepted, but those of 0
 pub record IsRunOf (told : Option Told) (version : Version) (life : ℕ) (rates : List Rate) (live : Live)
     (events : List Event) (replies : List Outcome) : Type 0 where
   pub range : AreInRange rates

@@ -14,8 +14,8 @@ use Rattle.share_journal.specs.Entries.{events_in, replies_of}
 abbrev pub audit_lines_of : {W : Type 0} → LinkView W → List Entry → List (List ℕ)
 audit_lines_of link entries = lines_of (audit link.live.version (events_in entries))
 
--- the bytes of the audit are read as its lines; these are answered by the journal's replies, and come to the state of
--- the run, which is what the link holds; and if its writer reports its bytes, they are those of that state
+-- the bytes of the audit are read as its lines. These are answered by the journal's replies, and come to the state of
+-- the run, which is what the link holds. If its writer reports its bytes, they are those of that state
 pub record IsReplayOf {W : Type 0} (told : W → Option Told) (link : LinkView W) (entries : List Entry) (life : ℕ)
     (lacks : List Bool) : Type 0 where
   pub lines : audit_lines_of link entries ≡ map spelling_of (audit_lines link.live.version (events_in entries))

@@ -123,11 +123,11 @@ impl Journal {
         self.entries.push_reserved(entry);
     }
 
-    /// Writes the audit: the line `audit 1` or `audit 2`, by its version, and then for each entry, in order, the line
-    /// that makes its event again. A command is spelled as its line, and a packet as `send` with the audit copy of its
-    /// payload. A write of k bytes is spelled as `turn k`, and a fault as `torn`. It takes no memory: each line is put
-    /// together on the stack, and a writer that accepts it whole is called once for it. If an offer is refused, a
-    /// beginning of the audit was written.
+    /// Writes the audit. Its first line is `audit 1` or `audit 2`, by its version. Then comes for each entry, in order,
+    /// the line that makes its event again. A command is spelled as its line, and a packet as `send` with the audit
+    /// copy of its payload. A write of k bytes is spelled as `turn k`, and a fault as `torn`. It takes no memory: each
+    /// line is put together on the stack, and a writer that accepts it whole is called once for it. If an offer is
+    /// refused, a beginning of the audit was written.
     pub fn audit<V: TellingWriter>(&self, output: &mut V) -> Result<(), Fault>
         ensures { WritesText V.told V.answers output.old output.new
             (audit self.now.version (events_in self.now.entries)) result }

@@ -33,10 +33,10 @@ pub fn recorders_are_one_fold<W: TellingWriter, S: Rates>(recorder: &Recorder<W,
 }
 
 /// The audit of a recorder's journal makes its run again, whatever its writer accepted. It is run as a script on a new
-/// link, of which its first line chooses the version, with the same tariffs and a life that is not shorter. If no line
-/// finds that memory is lacking, it is answered by the journal's replies, one line each, and comes to the state of the
-/// run. The link then holds what the recorder's holds, and its tape the bytes that the recorder's writer reports.
-/// Whether a line lacked memory is seen in the answers: if none of their lines is `no 1 NoMemory`, none did.
+/// link with the same tariffs and a life that is not shorter. Its first line chooses the version of the link. If no
+/// line lacks memory, it is answered by the journal's replies, one line each, and comes to the state of the run. The
+/// link then holds what the recorder's holds, and its tape the bytes that the recorder's writer reports. Whether a line
+/// lacked memory is seen in the answers: if none of their lines is `no 1 NoMemory`, none did.
 pub fn audits_replay<W: TellingWriter, S: Rates>(recorder: &Recorder<W, S>)
     ensures ample { (life : ℕ) (lacks : List Bool) → recorder.now.link.life ≤ life → IsAmple lacks
         → IsReplayOf W.told recorder.now.link recorder.now.entries life lacks }
@@ -66,8 +66,8 @@ pub fn arrivals_are_numbered()
 /// `arrive`, `turn` and `tear`, with any arguments and answers. Each makes the call of the link. No frame is in part
 /// before the first call. Two flows, `one` and `other`, compete before it and after each call, each with tickets that
 /// stay the same. By `Engine::position`, the gain of `one` in the chain is at most the greater of 0 and a sum of three
-/// terms: the gain of `other`, the distance by which `other` was ahead at the start, and the largest gain of `one` in a
-/// single call.
+/// terms. They are the gain of `other`, the distance that `other` was ahead at the start, and the largest gain of `one`
+/// in a single call.
 ///
 /// The answers of `Engine::tickets` for the open flows sum up to at most the active amount of `base`. While at most
 /// 2^20 of `base` is issued, each is the worth of the tickets that fund the flow.

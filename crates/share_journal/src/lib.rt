@@ -1,5 +1,5 @@
-//! The journal of a link: each of its events with the reply and where it came from, and a recorder, which keeps a link
-//! and its journal together.
+//! The journal of a link: each of its events with the reply and its source. A recorder keeps a link and its journal
+//! together.
 #![tactic(auto)]
 
 mod audit;

@@ -75,7 +75,7 @@ impl<W: TellingWriter, S: Rates> Recorder<W, S> {
         &self.engine
     }
 
-    /// The journal. The events of its entries are the run of the link: its replies are those of that run, and the link
+    /// The journal. The events of its entries are the run of the link. Its replies are those of that run, and the link
     /// holds what the run left. If the writer reports, it holds the bytes of the run, and what it accepted are the
     /// writes among the events, in order.
     pub fn journal(&self) -> &Journal
@@ -126,9 +126,9 @@ impl<W: TellingWriter, S: Rates> Recorder<W, S> {
         reply
     }
 
-    /// The packet of a worker for the flow of a name, as `Engine::arrive` takes it, and its entry if it was an
-    /// event: if the answer is not `Spent`. One copy of the payload goes into the buffer of the flow, and the other
-    /// into the entry. The payload is one that frames of the link's version carry. It takes no memory.
+    /// The packet of a worker for the flow of a name, as `Engine::arrive` takes it. It has an entry if it was an event:
+    /// if the answer is not `Spent`. One copy of the payload goes into the buffer of the flow, and the other into the
+    /// entry. The payload is one that frames of the link's version carry. It takes no memory.
     pub fn arrive(&mut self, worker: u64, flow: Name, parcel: Parcel) -> Reply
         requires { length parcel ≤ max_payload self.old.link.live.version }
         ensures did { Steps (λ _ l. arrive_step l flow parcel) self.old.link result self.new.link }

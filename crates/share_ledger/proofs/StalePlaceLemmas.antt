@@ -273,8 +273,8 @@ pub lefts-was : (old new : Net) (tickets_of_all : List ℕ) (c f : ℕ) → WasC
     → WasCurrent new tickets_of_all c f
 lefts-was old new tickets_of_all c f was left = grind (arith, nat_tests)
 
--- if no weight but that of `base` changed, and nothing active rests on the currency whose funding tickets may
--- be others, only the flow's own tickets may be
+-- Take a change in which no weight but that of `base` changed, and nothing active rests on the currency whose funding
+-- tickets may be others. Then only the flow's own tickets may be others
 pub quiet-computed : (n : Net) (tickets_of_all next : List ℕ) (backs funds : List Route) (lit : ℕ → Bool) (c f : ℕ)
     → HasInputs n backs funds lit → WasCurrent n tickets_of_all c f
     → ((p : ℕ) → 0 < p → p < 65 → numbers_of n.weights.value p ≡ numbers_of n.seen.value p)

@@ -35,8 +35,8 @@ pub record AreOrdered (ss : List (List FundingTicket)) (order : ℕ → ℕ) : T
   pub before : (p : ℕ) → 0 < p → p < 65
       → Each (λ (s : FundingTicket). (s.from < 65) × (spot s.from < spot p)) (funding_tickets_at ss p)
 
--- Whether a chain of n steps that does not begin at `base` ends at a place, if a ticket of the place `from` also funds
--- `to`. Each step goes from the place that a funding ticket comes from to that of its holder.
+-- Whether a chain of n steps ends at a place, if a ticket of the place `from` also funds `to`. The chain does not begin
+-- at `base`. Each step goes from the place that a funding ticket comes from to that of its holder.
 unfoldable pub is_tall : List (List FundingTicket) → ℕ → ℕ → ℕ → ℕ → Bool
 is_tall ss from to zero p = not (nat_eq p 0)
 is_tall ss from to (suc n) p =

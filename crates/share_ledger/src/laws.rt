@@ -18,8 +18,8 @@ impl Ledger {
         self.tables().is_kept();
     }
 
-    /// The tickets that fund all flows are together worth at most the active amount of `base`, before each flow's sum
-    /// is cut to 2^20 and after it. While that amount is at most 2^20, no sum is cut.
+    /// The tickets that fund all flows are together worth at most the active amount of `base`. That holds before each
+    /// flow's sum is cut to 2^20 and after it. While that amount is at most 2^20, no sum is cut.
     pub fn shares_are_within(&self)
         ensures { SharesAreWithin self.now }
     {
@@ -57,7 +57,7 @@ impl Ledger {
     }
 
     /// Funding a currency meets the test for `Deep` if and only if nine currencies besides `base` would then be in a
-    /// chain, each backing the next.
+    /// chain. In it each backs the next.
     pub fn deep_is_nine(&self)
         ensures { DeepIsNine self.now }
     {

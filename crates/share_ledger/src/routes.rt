@@ -1,7 +1,7 @@
 //! Routes of the tickets that have a holder.
 
-/// A ticket that has a holder: the place of its denomination among the currencies, that of its holder among the
-/// currencies or among the flows, and its amount.
+/// A ticket that has a holder, with its amount and two places. They are that of its denomination among the currencies,
+/// and that of its holder among the currencies or among the flows.
 #[derive(Clone, Copy, Debug)]
 pub(crate) struct Route {
     pub(crate) from: usize,

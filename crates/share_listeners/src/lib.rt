@@ -1,5 +1,5 @@
-//! The listeners of a gateway beside the ports of its tenants: control connections, web connections, the frames of
-//! another gateway, and the end of standard input.
+//! The listeners of a gateway beside the ports of its tenants. They wait for control connections, web connections, the
+//! frames of another gateway, and the end of standard input.
 #![tactic(auto)]
 
 mod controls;

@@ -33,8 +33,8 @@ refused_by rates ts i d t within is some not true test =
       ap is_tariff is ∙ each_is rates i d within both.1,
     ))
 
--- a tariff is refused only if there are eight before it, or it is out of its range: then they are not the tariffs of
--- a book
+-- a tariff is refused only if there are eight before it, or it is out of its range. Then they are not the tariffs of a
+-- book
 pub tariffs-refused : (rates : List Rate) (ts : List BookTariff) (i : ℕ) (d : Rate) (t : BookTariff) (added : Bool)
     → i < length rates → t ≡ book_tariff (get_or rates i d) → ts ≡ book_tariffs (take i rates) → added ≡ false
     → (((length ts < 8) × (is_tariff t ≡ true)) → added ≡ true) → are_tariffs (book_tariffs rates) ≡ false

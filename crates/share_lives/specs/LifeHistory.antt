@@ -46,10 +46,10 @@ waiting_at (Open b) name = waiting_in b name
 waiting_at (Carrying b c) name = waiting_in b name ++ left_for c name
 waiting_at Over name = []
 
--- The calls on a life from the first book on, as the tenant of a name sees them: the payloads that were taken of it;
--- how many of them were dropped, which are those that Remainders count; the payloads of its frames that were scheduled;
--- and the life as it is. Books follow one another by `follow`, calls of `carry` up to the one that is done, with text
--- handed between them, and `begin_next`. The plans are in their limits, as every plan is.
+-- The calls on a life from the first book on, as the tenant of a name sees them. They have the payloads that were taken
+-- of it, and the number of these that were dropped, as Remainders count them. They have the payloads of its frames that
+-- were scheduled, and the life as it is. Books follow one another by `follow`, calls of `carry` up to the one that is
+-- done, with text handed between them, and `begin_next`. The plans are in their limits, as every plan is.
 pub data LifeHistory (name : NameBytes) : List (List ℕ) → ℕ → List (List ℕ) → LifeView → Type 0 where
   began : (s : SettingsView) (l : LifeView) → IsInLimits s.plan → Begins s l → LifeHistory name [] 0 [] l
   took : (taken : List (List ℕ)) (dropped : ℕ) (scheduled : List (List ℕ)) (l : LifeView) (b : BookView)
@@ -88,7 +88,7 @@ pub data Splits : List (List ℕ) → List (List ℕ) → List (List ℕ) → Ty
   lost : (p : List ℕ) (all some others : List (List ℕ)) → Splits all some others → Splits (p ∷ all) some (p ∷ others)
 
 -- the packets that were taken are those whose frames were scheduled, followed by those that wait, and in between as
--- many as were dropped: in order, each once
+-- many as were dropped. They are in order, each once
 pub record LosesNothing (taken : List (List ℕ)) (dropped : ℕ) (scheduled waiting : List (List ℕ)) : Type 0 where
   pub others : List (List ℕ)
   pub splits : Splits taken (scheduled ++ waiting) others

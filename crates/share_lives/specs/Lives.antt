@@ -35,8 +35,8 @@ use Rattle.share_lives.specs.declared.remainder.Remainder.{Remainder}
 use Rattle.share_lives.specs.declared.stage.Phase.{Phase}
 use Rattle.share_lives.specs.declared.stage.Phase.TheVariants.{Open, Carrying, Over}
 
--- the state of the life of a book, with the books' views; the tariffs of the open book, the most events and the kind of
--- the text of a book; and the plan of the next one, if it is another
+-- the state of the life of a book, with the books' views. Then the tariffs of the open book, and the most events and
+-- the kind of the text of a book. Last the plan of the next one, if it is another
 pub record LifeView : Type 0 where
   pub stage : Phase
   pub rates : List Rate
@@ -184,8 +184,8 @@ dropped_at (Open b) = []
 dropped_at (Carrying b c) = remainders_of c
 dropped_at Over = []
 
--- those that are dropped if the life is left: those that wait in the open book; or those in the book that takes packets
--- over, and those that are left in the one before
+-- those that are dropped if the life is left. They are those that wait in the open book. Or they are those in the book
+-- that takes packets over, and those left in the one before
 abbrev pub left_at : Phase → List Remainder
 left_at (Open b) = remainders_of (closed_of b)
 left_at (Carrying b c) = remainders_of (closed_of b) ++ remainders_of c

@@ -1,5 +1,5 @@
-//! The lives of a gateway's books, over plain tariffs: how one is opened, how the next takes over what waits in it, and
-//! the rest at the end.
+//! The lives of a gateway's books, over plain tariffs. One is opened, the next takes over what waits in it, and the
+//! rest is left at the end.
 #![tactic(auto)]
 
 mod laws;

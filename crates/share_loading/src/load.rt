@@ -33,7 +33,7 @@ fn bytes_of<R: Files<File = File>>(rt: &R, alloc: Global, path: &str) -> io::Res
     Ok(bytes)
 }
 
-/// The settings that the bytes of a file say, or their first fault, in this order: they are no text; the text is no
+/// The settings that the bytes of a file say, or their first fault, in this order. They are no text; the text is no
 /// file of a gateway; the plan cannot be opened.
 pub fn load_settings(alloc: Global, bytes: &[u8]) -> Result<Settings, Refused>
     ensures ok { IfOk result (IsSaid bytes.now) }

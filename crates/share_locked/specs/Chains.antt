@@ -10,8 +10,8 @@ use Rattle.share_locked.specs.Calls.{CommandMade, Admission}
 use Rattle.share_locked.specs.Views.{LockedView, ClerkView}
 use Rattle.share_locked.specs.declared.locked.Admit.{Admit}
 
--- a call: a clerk before and after it, its command, and the number and the reply that it got; what an admission came
--- to; or how many bytes a turn offers at most, and what it came to
+-- a call: a clerk before and after it, its command, and the number and the reply that it got. Or the result of an
+-- admission; or the most bytes that a turn offers, and its result
 pub data LockedCall : Type 0 where
   OfClerk : ClerkView → Command → ℕ → Reply → ClerkView → LockedCall
   OfAdmission : Admit → LockedCall

@@ -205,7 +205,7 @@ impl Backlogs {
         }
     }
 
-    /// Forgets each flow whose buffer is full and that does not compete: nothing is sent of it, so no worker is to wait
+    /// Forgets each flow whose buffer is full and that does not compete. Nothing is sent of it, so no worker is to wait
     /// for room in its buffer.
     pub fn forget_full<F: FnMut(FlowNo) -> bool>(&mut self, competes: F)
         requires { F.IsAlwaysCallable competes }
@@ -242,7 +242,7 @@ impl Backlogs {
         count
     }
 
-    // By how many offers a worker may be ahead, by what its flows take: each worker that fills a flow may fill an equal
+    // By how many offers a worker may be ahead, by what its flows take. Each worker that fills a flow may fill an equal
     // part of its room.
     fn ahead(&self, filler: &Filler) -> u64 {
         let mut ahead = None;
@@ -300,7 +300,7 @@ impl Backlogs {
         }
     }
 
-    /// Whether a worker is at work that filled a flow whose buffer was empty at the last `allow`: a packet of the flow
+    /// Whether a worker is at work that filled a flow whose buffer was empty at the last `allow`. A packet of the flow
     /// may be at hand soon.
     pub fn awaits(&self, pace: &Pace) -> bool {
         for (at, filler) in self.fillers.iter().enumerate().take(self.workers) {

@@ -12,11 +12,11 @@ use share_journal::shares_of_recorders;
 use share_model::{Rates, TellingWriter};
 
 /// The laws of the shares of a link hold of one behind a lock. Take any chain of calls on it: `command`, `admit` and
-/// `turn`, each under the lock, of any threads, with any arguments and answers. They leave `later` behind the
-/// lock, one after the other. No frame is in part before the first call. Two flows, `one` and `other`, compete before
-/// it and after each call, each with tickets that stay the same. By `Engine::position`, the gain of `one` in the chain
-/// is at most the greater of 0 and a sum of three terms: the gain of `other`, the distance by which `other` was ahead
-/// at the start, and the largest gain of `one` in a single call.
+/// `turn`, each under the lock, of any threads, with any arguments and answers. They leave `later` behind the lock, one
+/// after the other. No frame is in part before the first call. Two flows, `one` and `other`, compete before it and
+/// after each call, each with tickets that stay the same. By `Engine::position`, the gain of `one` in the chain is at
+/// most the greater of 0 and a sum of three terms. They are the gain of `other`, the distance that `other` was ahead at
+/// the start, and the largest gain of `one` in a single call.
 ///
 /// The answers of `Engine::tickets` for the open flows sum up to at most the active amount of `base`. While at most
 /// 2^20 of `base` is issued, each is the worth of the tickets that fund the flow.

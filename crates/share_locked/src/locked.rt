@@ -89,8 +89,8 @@ impl<W: TellingWriter, S: Rates, L: LinkBrand> Locked<W, S, L> {
         }
     }
 
-    /// The recorder. Its entries are a run, and the arrivals among them are what the intake took of the queue, in
-    /// order, numbered from 1 for each worker.
+    /// The recorder. Its entries are a run. The arrivals among them are what the intake took of the queue, in order,
+    /// numbered from 1 for each worker.
     pub fn recorder(&self) -> &Recorder<W, S>
         ensures recorder { result.now ≡ self.now.recorder }
         ensures run { IsRunNow W.told self.now.recorder.link self.now.recorder.entries }

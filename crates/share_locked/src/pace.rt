@@ -74,10 +74,10 @@ impl WorkerPace {
 /// has nothing to do, and anyone who makes work for it *rings*. A worker sleeps when it has made as many offers as the
 /// link allows. Workers are numbered from 1, as the ends of the queue are.
 ///
-/// No wake-up is lost. A thread that makes work makes it first, and then looks whether the link's thread lies down;
-/// that thread lies down first, and then looks for work once more before it sleeps. All accesses have one order, so
-/// one of the two sees the other. A worker looks at what it is allowed before each sleep, and a wake-up that comes
-/// before its sleep is kept.
+/// No wake-up is lost. A thread that makes work makes it first, and then looks whether the link's thread lies down.
+/// That thread lies down first, and then looks for work once more before it sleeps. All accesses have one order, so one
+/// of the two sees the other. A worker looks at what it is allowed before each sleep, and a wake-up that comes before
+/// its sleep is kept.
 #[derive(Drop)]
 pub struct Pace {
     link: Sleeper,

@@ -30,7 +30,7 @@ pub record CarriesHead (l : Live) (s : Sending) : Type 0 where
   pub tariff : s.tariff ≡ tariff_of l.books s.head.flow
   pub head : head_of l.buffers s.head.flow ≡ Some s.head
 
--- a new frame, of which no byte is out: its flow is the competing one with the least pass, and of equal passes with the
+-- a new frame, of which no byte is out. Its flow is the competing one with the least pass, and of equal passes with the
 -- least number
 pub record IsBegun (l : Live) (s : Sending) : Type 0 where
   pub least : IsNextFlow l.queue.clients s.head.flow
@@ -64,8 +64,8 @@ pub record Fails (before last : State) : Type 0 where
 
 -- The sentence
 
--- the version of a link's frames, its life and its tariffs; the events that it made, in their order; the replies to
--- them; what the link holds after them; and what its writer reports, if it reports anything
+-- the version of a link's frames, its life and its tariffs. Then the events that it made, in their order, and the
+-- replies to them. Last what the link holds after them, and what its writer reports, if it reports anything
 pub record Headline (version : Version) (life : ℕ) (rates : List Rate) (events : List Event) (replies : List Outcome)
     (l : Live) (told : Option Told) : Type 0 where
   -- commands and arrivals came in any order; writes accepted any counts, and none came after a fault

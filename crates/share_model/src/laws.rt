@@ -154,8 +154,8 @@ pub fn shares_are_within_of_runs()
 {}
 
 /// In a life of at most 2^24 events fewer than 2^38 units are charged. A pass is at most stride * (1 + units charged)
-/// from the global pass, and the remain of a flow that does not compete is as near to 0. Accounts stay below 2^54, and
-/// so do those of closed flows together.
+/// from the global pass. The remain of a flow that does not compete is as near to 0. Accounts stay below 2^54, and so
+/// do those of closed flows together.
 pub fn bounds_of_runs()
     ensures clock { (version : Version) (life : ℕ) (rates : List Rate) (events : List Event)
         → life ≤ max_life → AreInRange rates
@@ -174,8 +174,8 @@ pub fn bounds_of_runs()
 
 /// Take a stretch of the events of a run that begins with no frame in part. Two flows, `one` and `other`, compete with
 /// the same tickets before its first event and after each. Whole frames and a fault raise the pass of `one` in it.
-/// These raises together are at most the greater of 0 and a sum of three terms: those of the pass of `other`, the
-/// distance by which that pass was ahead at the start, and the largest single charge to `one`.
+/// These raises together are at most the greater of 0 and a sum of three terms. They are those of the pass of `other`,
+/// the distance that this pass was ahead at the start, and the largest single charge to `one`.
 pub fn shares_of_runs()
     ensures { (version : Version) (life : ℕ) (rates : List Rate) (before stretch : List Event)
         (one other one_tickets other_tickets : ℕ) → AreInRange rates
@@ -190,15 +190,15 @@ pub fn shares_of_runs()
 /// Take any chain of calls on one link: commands, arrivals, turns and declared faults. Their arguments and answers may
 /// be any, and each makes an event or none. No frame is in part before the first call. Two flows, `one` and `other`,
 /// compete before it and after each call, and the tickets of each stay the same. By the answers of `position`, the gain
-/// of `one` in the chain is at most the greater of 0 and a sum of three terms: the gain of `other`, the distance by
-/// which `other` was ahead at the start, and the largest gain of `one` in a single call.
+/// of `one` in the chain is at most the greater of 0 and a sum of three terms. They are the gain of `other`, the
+/// distance that `other` was ahead at the start, and the largest gain of `one` in a single call.
 pub fn shares_of_calls<W: TellingWriter>()
     ensures { (first : LinkView W) → AreInRange first.rates → Sound first.life first.rates first.live
         → SharesAreKept W.answers first }
 {}
 
 /// While at most 2^20 of `base` is issued, in all its tickets together, the cap of 2^20 does not lower the tickets of
-/// any flow: they are what the tickets that fund it are worth together.
+/// any flow. They are what the tickets that fund it are worth together.
 pub fn tickets_are_uncapped_of_runs()
     ensures { (version : Version) (life : ℕ) (rates : List Rate) (events : List Event) → AreInRange rates
         → MayRun version life rates events → issued_amount (run version rates events).live.graph base ≤ 2 ^ 20
@@ -206,8 +206,8 @@ pub fn tickets_are_uncapped_of_runs()
         ≡ uncapped_tickets (run version rates events).live.graph flow }
 {}
 
-/// The promise, `Headline`, holds of every run: for anyone who gives the replies of the fold, holds what it comes
-/// to, and reports its bytes and the counts of its writes. The laws of recorders and of scripts say that links do.
+/// The promise, `Headline`, holds of every run. It does so for anyone who gives the fold's replies, holds its result,
+/// and reports its bytes and the counts of its writes. The laws of recorders and of scripts say that links do.
 pub fn runs_are_one_fold()
     ensures { (version : Version) (life : ℕ) (rates : List Rate) (events : List Event) (told : Told)
         → life ≤ max_life → AreInRange rates → MayRun version life rates events
@@ -217,11 +217,11 @@ pub fn runs_are_one_fold()
 {}
 
 /// A script is a run of its events: each line makes one or none. It is of version 2 if and only if its first line is
-/// `audit 2`, and otherwise of version 1. The events may follow one another, and the state and the writes of the
-/// script are those of the run. A line is answered with the text of its event's outcome, or with a text of its own
-/// if it made none, which is empty for a first line that chooses the version. `report` makes none: wherever it is,
-/// its text is the report of what the lines before it left. So every law of runs holds of every script, whatever
-/// its lines, and whichever of them lack memory.
+/// `audit 2`, and otherwise of version 1. The events may follow one another, and the state and the writes of the script
+/// are those of the run. A line is answered with the text of its event's outcome, or with a text of its own if it made
+/// none. That is empty for a first line that chooses the version. `report` makes none: wherever it is, its text is the
+/// report of what the lines before it left. So every law of runs holds of every script, whatever its lines, and
+/// whichever of them lack memory.
 pub fn scripts_are_runs()
     ensures follow { (life : ℕ) (rates : List Rate) (lacks : List Bool) (lines : List (List ℕ))
         → AreInRange rates
@@ -244,8 +244,8 @@ pub fn scripts_are_runs()
         ++ more)) }
 {}
 
-/// A line that finds no memory says so. If no line of the answers is `no 1 NoMemory`, the answers and the state are
-/// those of a script that finds memory for each line.
+/// A line that finds no memory says so. Take answers of which no line is `no 1 NoMemory`. They and the state are those
+/// of a script that finds memory for each line.
 pub fn answers_tell_lacks()
     ensures text { (life : ℕ) (rates : List Rate) (lacks : List Bool) (lines : List (List ℕ))
         → FoundMemory (talk life rates start_of_script lacks lines)

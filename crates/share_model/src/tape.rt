@@ -8,9 +8,9 @@ use std::alloc::{AllocError, Global};
 use std::marker::Model;
 
 /// A writer over memory. It accepts the whole piece, or fails and stays as it was because memory was refused. A
-/// contract sees it as the bytes that it holds and the count of each call. A call with n bytes takes these and
-/// n / 255 + 1 for their count: at most twice the bytes written, and one byte for an empty piece. Its room doubles
-/// when it is full.
+/// contract sees it as the bytes that it holds and the count of each call. A call with n bytes takes these and n / 255
+/// + 1 for their count. That is at most twice the bytes written, and one byte for an empty piece. Its room doubles when
+/// it is full.
 #[derive(Drop)]
 pub struct Tape {
     bytes: Vec<u8>,

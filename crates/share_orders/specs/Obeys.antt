@@ -21,8 +21,8 @@ use Rattle.share_orders.specs.declared.obeying.Duty.TheVariants.{
 use Rattle.share_orders.specs.declared.obeying.Obeyed.{Obeyed}
 use Rattle.share_orders.specs.declared.obeying.Obeyed.TheVariants.{Replied, Asks, Waits}
 
--- an order that is an event waits while the text has no room for its line; and, as those that close the book, while the
--- disk fails
+-- an order that is an event waits while the text has no room for its line. It also waits, as those that close the book,
+-- while the disk fails
 abbrev pub waits : Bool → Bool → Order → Bool
 waits fails lacks Report = false
 waits fails lacks Status = false

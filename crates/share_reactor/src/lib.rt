@@ -1,5 +1,5 @@
-//! A gateway that runs: one thread that waits for readiness and does everything with the open book, and two beside it
-//! that write books to disk.
+//! A gateway that runs: one thread that waits for readiness and does everything with the open book. Two beside it write
+//! books to disk.
 #![tactic(auto)]
 
 mod last_books;

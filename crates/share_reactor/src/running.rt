@@ -25,8 +25,8 @@ pub struct Place {
     pub number: u64,
 }
 
-/// Runs a gateway with the settings of the file at a path, whose first book has this place, until its end was asked for
-/// and is over. Returns what was left.
+/// Runs a gateway with the settings of the file at a path, until its end was asked for and is over. Its first book has
+/// this place. Returns what was left.
 pub fn run<R: SystemFiles + Net + Clock + Wait + Threads + Sync + Eprint>(
     rt: &R,
     alloc: Global,

@@ -44,7 +44,7 @@ book_bytes a text = concat (frames_from a.link.rates (empty_state Two) text.even
 abbrev pub text_lines : (a : Audited) → IsRunAndText a → List (List ℕ)
 text_lines a text = lines_of (whole_text a text)
 
--- run as a script with the book's tariffs, they are answered by the book's replies, one line each; they come to the
+-- run as a script with the book's tariffs, they are answered by the book's replies, one line each. They come to the
 -- contents of the book's link and to the bytes of its frames
 pub record IsReplayOfBook (a : Audited) (text : IsRunAndText a) (life : ℕ) (lacks : List Bool) : Type 0 where
   pub answers : talk life a.link.rates start_of_script lacks (text_lines a text) ≡ flat_map line_text text.replies

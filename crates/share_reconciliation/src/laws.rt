@@ -53,8 +53,8 @@ pub fn bills_match_books<I: TellingReader>()
 {}
 
 /// The same of a book as it is. It has a whole text, of which `share_book::Book::text` lends the end.
-/// `share_bill::bill_text`, for a reader of this text and with the tariffs of the book, returns the book's bill, unless
-/// a read failed or memory was refused.
+/// `share_bill::bill_text`, for a reader of this text and with the tariffs of the book, returns the book's bill. It
+/// does not if a read failed or memory was refused.
 pub fn bill_matches_book<S: Rates, I: TellingReader>(book: &Book<S>)
     ensures { (text : IsRunAndText book.now.audited)
         × ((first : I) (result : Result BookBill NotBilled)

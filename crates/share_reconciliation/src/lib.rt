@@ -1,5 +1,5 @@
-//! The outcome of the texts of books: the bill of a text is that of the run that wrote it, and a whole text makes
-//! the run again.
+//! The outcome of the texts of books. The bill of a text is that of the run that wrote it, and a whole text makes the
+//! run again.
 #![tactic(auto)]
 
 mod laws;

@@ -9,10 +9,10 @@ use crate::text::ReportText;
 use share_core::{Engine, MAX_FLOWS};
 use share_model::{Fault, FlowLine, Rates, Standing, TellingWriter, put};
 
-/// Writes the report of a link: a line for each of its totals, a line for each open flow, in order of opening, and the
-/// line `end`. A link whose life is spent is reported too. The call changes nothing and takes no memory: the text is
-/// put together on the stack, so a writer that accepts it whole is called once. If an offer is refused, a beginning of
-/// the text was written.
+/// Writes the report of a link. It has a line for each of its totals, a line for each open flow, in order of opening,
+/// and the line `end`. A link whose life is spent is reported too. The call changes nothing and takes no memory. The
+/// text is put together on the stack, so a writer that accepts it whole is called once. If an offer is refused, a
+/// beginning of the text was written.
 pub fn report<W, S: Rates, V: TellingWriter>(
     engine: &Engine<W, S>,
     output: &mut V,

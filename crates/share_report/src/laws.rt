@@ -38,8 +38,8 @@ pub fn new_flows_show_no_place()
         → Sound life rates l → (client l.queue e.1.number).tickets ≡ 0 → (flow_shown l e).place ≡ pos 0 }
 {}
 
-/// An open flow of a link fits the columns of its line, if its name has at most 16 bytes and fewer than 10^4 of its
-/// packets wait.
+/// An open flow of a link fits the columns of its line, if its name is short and few of its packets wait. A short name
+/// has at most 16 bytes, and few packets are fewer than 10^4.
 pub fn flows_fit_their_columns()
     ensures { (life : ℕ) (rates : List Rate) (l : Live) (n : ℕ) (e : NameBytes × OpenFlow) → life ≤ 2 ^ 24
         → Sound life rates l → slice_get l.graph.flows n ≡ Some e → length e.0 ≤ 16

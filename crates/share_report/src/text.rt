@@ -15,7 +15,7 @@ pub(crate) const WIDEST: usize = 26;
 /// The spaces that fill the widest column.
 const SPACES: [u8; WIDEST] = [b' '; WIDEST];
 
-/// A column of this many places. A text is at its left or at its right, and spaces fill the rest; a text that is longer
+/// A column of this many places. A text is at its left or at its right, and spaces fill the rest. A text that is longer
 /// than its column is shown whole.
 #[derive(Clone, Copy, Debug)]
 pub enum Column {

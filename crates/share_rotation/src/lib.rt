@@ -1,5 +1,5 @@
-//! The open book of a gateway: its turns, its text on the way to the disk, its frames on the way to the wire, and when
-//! the next book follows it.
+//! The open book of a gateway: its turns, its text on the way to the disk, and its frames on the way to the wire. The
+//! crate also finds the time at which the next book follows it.
 #![tactic(auto)]
 
 mod books;

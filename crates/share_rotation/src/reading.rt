@@ -12,7 +12,7 @@ use std::time::Instant;
 
 impl Books {
     /// Obeys an order. Orders that are events, or that close the book, wait while the disk fails or the book is being
-    /// closed; then the others do too while no book is open.
+    /// closed. Then the others do too while no book is open.
     pub fn obey(&mut self, order: Order) -> Obeyed {
         let waits = self.is_stalled || self.succession.is_begun();
         self.life.obey(waits, order)

@@ -43,8 +43,8 @@ pub record EndsAtRefusal {W : Type 0} (answers : W → List ℕ → Answer → W
   pub calls : OfferRefused answers first last
   pub marked : mark last ≡ true
 
--- after offers, of each of which some was accepted, one was refused, and then the writer has its mark; and an offer to
--- the writer below it was refused too
+-- after offers, of each of which some was accepted, one was refused, and then the writer has its mark. An offer to the
+-- writer below it was refused too
 pub record LosesFeed {W O : Type 0} (answers : W → List ℕ → Answer → W → Type 0) (mark : W → Bool) (below : W → O)
     (accepts : O → List ℕ → Answer → O → Type 0) (first : W) (after : O) : Type 0 where
   pub last : W

@@ -23,7 +23,7 @@ use Rattle.share_script.specs.declared.script.ScriptFault.TheVariants.{Input, Ou
 
 -- The whole run
 
--- the whole script was read, and the whole text printed; the link holds what it holds after the lines, and its tape
+-- the whole script was read, and the whole text printed. The link holds what it holds after the lines, and its tape
 -- their bytes and writes
 pub record Printed (before after_it : Option (List ℕ)) (old : LinkView Told) (script : List ℕ) (left : Option (List ℕ))
     (new : LinkView Told) : Type 0 where
@@ -38,9 +38,9 @@ pub record Printed (before after_it : Option (List ℕ)) (old : LinkView Told) (
   pub life : new.life ≡ old.life
   pub rates : new.rates ≡ old.rates
 
--- the whole script was read, and the answers to its lines were printed: the texts of the outcomes of the events that
--- the lines make, and each text without an event in its place; and of these events, on frames of the version that the
--- first line chooses, the link and its tape keep the sentence of this project
+-- the whole script was read, and the answers to its lines were printed. They are the texts of the outcomes of the
+-- events that the lines make, and each text without an event in its place. Of these events, on frames of the version
+-- that the first line chooses, the link and its tape keep the sentence of this project
 pub record IsOneFold (before after_it : Option (List ℕ)) (old : LinkView Told) (script : List ℕ)
     (left : Option (List ℕ))
     (new : LinkView Told) : Type 0 where

@@ -263,7 +263,7 @@ fn is_torn(turn: &Turn) -> bool
     matches!(turn, Turn::Torn { .. })
 }
 
-/// Prints what a line is answered with: the line of an outcome waits to be written, and a report is written at once,
+/// Prints what a line is answered with. The line of an outcome waits to be written, and a report is written at once,
 /// after all that waits.
 pub fn print<W, S: Rates, O: TellingWriter>(
     engine: &Engine<W, S>,

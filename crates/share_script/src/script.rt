@@ -73,14 +73,14 @@ impl<T: Drop> From<AllocFailed<T>> for ScriptFault {
     }
 }
 
-/// Runs a script on a new link whose tape is empty. Each line is answered by a line of output, but `report` by the
-/// report of the link, and `audit 1` or `audit 2` as the first line by nothing: it chooses the version of the script,
-/// which is 1 if its first line is another. The answers to what one read gave are offered before
-/// the next read is made. An interrupted read is made again; at most 2^32 reads are made. The run ends with the input,
-/// or at the first fault. A fault drops the link, and what was printed is then a beginning of the answers to the lines
-/// of what was read.
+/// Runs a script on a new link whose tape is empty. Each line is answered by a line of output. `report` is answered by
+/// the report of the link, and `audit 1` or `audit 2` as the first line by nothing. That first line chooses the version
+/// of the script, which is 1 if its first line is another. The answers to what one read gave are offered before the
+/// next read is made. An interrupted read is made again; at most 2^32 reads are made. The run ends with the input, or
+/// at the first fault. A fault drops the link, and what was printed is then a beginning of the answers to the lines of
+/// what was read.
 ///
-/// `Input` if a read failed or too many would be made, `Output` if an offer of an answer or a report was refused,
+/// `Input` if a read failed or too many would be made, `Output` if an offer of an answer or a report was refused.
 /// `NoMemory` if there was no memory for the buffers, before anything is read, or the tape found none for a frame.
 pub fn run_script<S: Rates + Drop, I: TellingReader, O: TellingWriter>(
     alloc: Global,

@@ -51,8 +51,8 @@ with_end f uplink audit output = record f { uplink = uplink; audit = audit; outp
 abbrev pub untold : {W : Type 0} → W → Option Told
 untold writer = None
 
--- The link was settled: what the worker of each end queued is what was admitted of it, and the audit of the journal,
--- run as a script, is answered by the journal's replies.
+-- The link was settled: what the worker of each end queued is what was admitted of it. The audit of the journal, run as
+-- a script, is answered by the journal's replies.
 pub record LinkWasSettled {W : Type 0} (l : LockedView W) (ends : List EndView) (clerks : List ClerkView) : Type 0 where
   pub recorder : RecorderView W
   pub tallies : List ℕ
@@ -67,8 +67,8 @@ Settling l ends clerks found known =
     (LinkWasSettled l ends clerks × (known ≡ found))
     ⊎ ((why : WhyUnsettled) × Unsettles why l ends clerks × (known ≡ with_want found why))
 
--- the text was written, and every offer of it accepted; or it was lost: a beginning of it was written, and an offer of
--- it was refused
+-- the text was written, and every offer of it accepted. Or it was lost, if a beginning of it was written, and an offer
+-- of it was refused
 abbrev pub IsWritten : {O : Type 0} → (O → Option Told) → (O → List ℕ → Answer → O → Type 0) → O → O → List ℕ → Bool
     → Type 0
 IsWritten told answers old new text false =
@@ -76,8 +76,8 @@ IsWritten told answers old new text false =
 IsWritten told answers old new text true =
     AppendsPart (bytes_told (told old)) (bytes_told (told new)) text × OfferRefused answers old new
 
--- The findings when a link is closed: how it is settled, whether its uplink is torn, and whether the audit of its own
--- journal and its report were lost. Its frames are of version 2, and the journal is its run.
+-- The findings when a link is closed. They are its settling, whether its uplink is torn, and whether the audit of its
+-- own journal and its report were lost. Its frames are of version 2, and the journal is its run.
 pub record IsClosing {W K O : Type 0} (kept : K → JournalView → Bool → Type 0) (told : O → Option Told)
     (answers : O → List ℕ → Answer → O → Type 0) (l : LockedView W) (ends : List EndView) (clerks : List ClerkView)
     (keep : K) (old new : O) (found closed : FoundFaults) : Type 0 where
@@ -114,8 +114,8 @@ pub record IsRunClosed {X K O : Type 0} (kept : K → JournalView → Bool → T
   pub result_is : IsResultOf closed result
   pub reason_is : HasItsReason reasons result
 
--- A run without a fault: its link was settled and is not broken, its frames are of version 2, the journal is its run,
--- and all of the journal's audit and of the link's report was written.
+-- A run without a fault. Its link was settled and is not broken, its frames are of version 2, and the journal is its
+-- run. All of the journal's audit and of the link's report was written.
 pub record WasServed {K O : Type 0} (kept : K → JournalView → Bool → Type 0) (told : O → Option Told)
     (answers : O → List ℕ → Answer → O → Type 0) (keep : K) (old new : O) : Type 0 where
   pub locked : LockedView UplinkWriter

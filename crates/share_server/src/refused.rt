@@ -84,8 +84,8 @@ impl RefusedPackets {
         }
     }
 
-    /// The line about the connection at this place, if one is due: after the first refused packet, and each time that
-    /// there are twice as many, so that a flood of them makes few lines. At the end all that are left are printed.
+    /// The line about the connection at this place, if one is due. It is due after the first refused packet, and each
+    /// time that there are twice as many. So a flood of them makes few lines. At the end all that are left are printed.
     pub fn line(&mut self, at: usize, is_end: bool) -> Option<RefusedLine> {
         let count = self.counts.get_mut(at)?;
         let is_due = count.refused >= count.told.saturating_mul(2) || is_end;

@@ -23,7 +23,7 @@ use std::sync::{Mutex, Wait};
 use std::thread::Threads;
 use std::time::Clock;
 
-/// Serves a new link of version 2 with this journal, which is empty and of version 2, over these sockets: accepts the
+/// Serves a new link of version 2 with this journal, which is empty and of version 2, over these sockets. Accepts the
 /// control connections and then the ingress connections, and runs until all have ended and what they brought is sent.
 /// Then it settles, keeps the audit, and writes the report to the output, both even if something went wrong. If a
 /// reader is given, its end ends the connections. The error is the first fault, in the order of `ServeFault`, with the

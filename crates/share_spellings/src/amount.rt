@@ -4,9 +4,9 @@ ghost use Rattle.share_spellings.specs.Amounts.{bits_of, seconds_of, rate_of, pe
 ghost use Rattle.std.specs.List.{list_all};
 ghost use Rattle.share_spellings.specs.Amounts.{with_unit, is_decimal, is_digit, begins_well};
 
-/// The bytes a second of a text such as `20 Mbit/s`: a decimal number, one space, and one of bit/s, kbit/s, Mbit/s,
-/// Gbit/s, B/s, kB/s and MB/s, whose prefixes are decimal. `None` if it is no such text, if the bits are not below
-/// 2^64, or if they are no byte.
+/// The bytes a second of a text such as `20 Mbit/s`. The text is a decimal number, one space, and one of bit/s, kbit/s,
+/// Mbit/s, Gbit/s, B/s, kB/s and MB/s, whose prefixes are decimal. `None` if it is no such text, if the bits are not
+/// below 2^64, or if they are no byte.
 pub fn read_rate(text: &str) -> Option<u64>
     ensures { result ≡ rate_of text.now }
 {

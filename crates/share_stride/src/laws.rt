@@ -36,8 +36,8 @@ pub fn next_is_unique()
 {}
 
 /// Take two passes, `one` and `other`, and charge `one` only while it is at most `other`. Then `one` is charged at most
-/// the greater of 0 and this sum: what `other` is charged, by how much `other` was ahead at the start, and the largest
-/// charge to `one`.
+/// the greater of 0 and a sum of three terms. They are what `other` is charged, the distance that `other` was ahead at
+/// the start, and the largest charge to `one`.
 pub fn shares_stay_close()
     ensures { SharesStayClose }
 {}

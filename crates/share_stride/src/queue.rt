@@ -22,9 +22,9 @@ use std::marker::Model;
 ///
 /// A client that has competed has 1 to 2^20 tickets, and a stride of 2^40 divided by them, rounded down. A new one has
 /// no tickets, and the stride 0. A charge of `u` units adds `stride * u / 1024`, rounded down, to a client's pass while
-/// it competes, and to its remain while it does not. The remain is by how much the pass was ahead of the global pass
-/// when the client left. The global pass is that of a client with all tickets of those that compete. The clock counts
-/// the units that all clients were charged.
+/// it competes. While it does not, it adds that to its remain. The remain is by how much the pass was ahead of the
+/// global pass when the client left. The global pass is that of a client with all tickets of those that compete. The
+/// clock counts the units that all clients were charged.
 pub struct Queue {
     clients: Table,
     global: GlobalPart,
@@ -238,9 +238,8 @@ impl Queue {
         }
     }
 
-    /// The values that all clients share: the tickets of those that compete, the global pass, the clock at the
-    /// last update of the global pass, and the clock, in units. Each join and each leave updates the global
-    /// pass.
+    /// The values that all clients share. They are the tickets of those that compete, the global pass, the clock at its
+    /// last update, and the clock, in units. Each join and each leave updates the global pass.
     pub fn global(&self) -> GlobalPart
         ensures value { result ≡ global_part self.now }
 

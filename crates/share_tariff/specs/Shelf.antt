@@ -9,7 +9,7 @@ pub use Rattle.share_tariff.specs.ShelfLength.{is_shelf_length}
 use Rattle.share_tariff.specs.declared.tariff.Tariff.{Tariff}
 use Rattle.share_tariff.specs.declared.shelf.Shelf.{Shelf}
 
--- the two closures of a tariff may be of any types: A and B are these, C and D what they hold, and charge and book say
+-- the two closures of a tariff may be of any types. A and B are these, C and D what they hold, and charge and book say
 -- the result of a call of each
 module _ {A B : Type 0} {C : A → Type 0} {D : B → Type 0} {charge : _} {book : _} where
   -- the numbers of a tariff

@@ -4,9 +4,9 @@ ghost use Rattle.share_model.specs.link.Tariff.{is_rate, units_of};
 
 use crate::tariff::{MAX_CELL, MAX_OVERHEAD, MAX_PRICE};
 
-/// The units that `count` bytes are charged under a tariff of this cell and this overhead, by one division: none for no
-/// byte, otherwise the overhead and whole cells. A number out of its range counts as the nearest one in it: a cell is 1
-/// to 2048 units, and an overhead at most 1024. It takes no memory.
+/// The units that `count` bytes are charged under a tariff of this cell and this overhead, by one division. They are
+/// none for no byte, otherwise the overhead and whole cells. A number out of its range counts as the nearest one in it.
+/// A cell is 1 to 2048 units, and an overhead at most 1024. It takes no memory.
 pub fn units_by_division(cell: u64, overhead: u64, count: u32) -> u64
     ensures units { (price : ℕ) → is_rate cell overhead price ≡ true
         → result ≡ units_of (record { cell = cell; overhead = overhead; price = price }) count }
@@ -32,7 +32,7 @@ pub fn account_after(price: u64, account: u64, units: u64) -> u64
     account.saturating_add(price.saturating_mul(units))
 }
 
-/// Makes a shelf of tariffs whose closures follow the plain rule, from an allocator and the numbers of each tariff:
+/// Makes a shelf of tariffs whose closures follow the plain rule. It takes an allocator and the numbers of each tariff:
 /// `shelf!(alloc, (1, 0, 1), (48, 16, 2))`. The boxes are made in the body that calls it. If memory for one is refused,
 /// that body returns the error (`?`). A tariff out of range, or more than 8 of them, cannot be proved at the call.
 #[macro_export]

@@ -22,7 +22,7 @@ pub struct PlainShelf {
 impl PlainShelf {
     ghost use Rattle.share_tariff.specs.PlainShelf.{plain_rates_of};
 
-    /// The shelf of these tariffs. `Range` if there are not 1 to 8 of them, or one is out of its range: a cell is 1 to
+    /// The shelf of these tariffs. `Range` if there are not 1 to 8 of them, or one is out of its range. A cell is 1 to
     /// 2048, an overhead 0 to 1024, a price 0 to 65535. It takes no memory; what is refused is dropped.
     pub fn new(rates: Vec<Rate>) -> Result<PlainShelf, Refusal>
         ensures ok { IfOk result (λ s.

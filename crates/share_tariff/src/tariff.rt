@@ -23,8 +23,8 @@ pub type ChargeFn = Box<dyn Fn(u32) -> u64 + Send>;
 pub type BookFn = Box<dyn Fn(u64, u64) -> u64 + Send>;
 
 /// A tariff whose numbers are in range, and the two closures by which it charges and posts. The caller made them, and
-/// they follow the tariff's rule: `charge` for up to 65535 bytes, `book` for an account of up to 2^62 and up to 2^17
-/// units. A contract sees the numbers.
+/// they follow the tariff's rule. `charge` does for up to 65535 bytes, `book` for an account of up to 2^62 and up to
+/// 2^17 units. A contract sees the numbers.
 #[derive(Drop)]
 pub struct Tariff {
     rate: Rate,
@@ -38,8 +38,8 @@ pub struct Tariff {
 impl Tariff {
     ghost use Rattle.share_tariff.specs.Shelf.{rate_in};
 
-    /// The tariff of these numbers: a cell of 1 to 2048 units, an overhead of 0 to 1024 units, and a price of 0 to
-    /// 65535 for each unit. `Range` if one of them is out of its range; then the closures are dropped. It takes no
+    /// The tariff of these numbers. They are a cell of 1 to 2048 units, an overhead of 0 to 1024 units, and a price of
+    /// 0 to 65535 a unit. `Range` if one of them is out of its range; then the closures are dropped. It takes no
     /// memory.
     ///
     /// If the numbers are in range, the closures must follow the tariff's rule and may be called where it says so.

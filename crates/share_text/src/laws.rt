@@ -7,8 +7,8 @@ ghost use Rattle.share_model.specs.declared.line.Line.{Line};
 ghost use Rattle.share_model.specs.text.Lines.{IsLine, is_in_range, reading, spelling_of};
 ghost use Rattle.share_model.specs.text.Talk.{lines_of};
 
-/// Written lines are read as these lines: their bytes fall into the same lines again, one for each, and each
-/// is read as what was written, or refused as `Range` if it is out of range in the version of the link.
+/// Written lines are read as these lines. Their bytes fall into the same lines again, one for each. Each is read as
+/// what was written, or refused as `Range` if it is out of range in the version of the link.
 pub fn written_lines_are_read()
     ensures apart { (l : Line) (rest : List ℕ) → IsLine l
         → lines_of ((spelling_of l ++ codes "\n") ++ rest) ≡ spelling_of l ∷ lines_of rest }

@@ -13,8 +13,8 @@ pub struct Length {
     pub count: u64,
 }
 
-/// The packet of a line `send NAME LENGTH`, from the bytes after its keyword and one space: a name, a space, and the
-/// decimal of a number below 2^64. `None` if they spell no such packet.
+/// The packet of a line `send NAME LENGTH`, from the bytes after its keyword and one space. They are a name, a space,
+/// and the decimal of a number below 2^64. `None` if they spell no such packet.
 pub fn read_length(bytes: &[u8]) -> Option<Length>
     ensures { result ≡ length_of (words_of bytes.now) }
 {

@@ -29,9 +29,9 @@ pub const MAX_LINE: usize = 20480;
 /// The longest line of a packet whose payload needs no memory: `send`, a name of 16 bytes, 32 digits and two spaces.
 const MAX_SHORT_PACKET: usize = 54;
 
-/// The line that these bytes, without a line feed, spell on a link of this version. `Syntax` where they spell none,
-/// `Range` where frames of the version do not carry the payload of a packet, which has more than 1490 or 9000 bytes, or
-/// the number of a turn is not 1 to 65535, `NoMemory` where the copy of a payload found none.
+/// The line that these bytes, without a line feed, spell on a link of this version. `Syntax` if they spell none.
+/// `Range` if frames of the version do not carry the payload of a packet, which has more than 1490 or 9000 bytes.
+/// `Range` too if the number of a turn is not 1 to 65535. `NoMemory` if the copy of a payload found none.
 pub fn read_line(alloc: Global, version: Version, bytes: &[u8]) -> Result<Line, Refusal>
     ensures reads { ReadsLine version bytes.now result }
     ensures spelled { IfOk result (λ line. IsReading version bytes.now line) }

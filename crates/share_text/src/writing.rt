@@ -14,8 +14,8 @@ use share_model::{Fault, Line, TellingWriter, put};
 
 /// Writes the spelling of a line and a line feed. It takes no memory: the text is put together on the stack, so a
 /// writer that accepts it whole is called once. If an offer is refused, a beginning of the text was written. Whatever
-/// its fields are, the line can be read: these bytes are read as this line, without what is stamped before a payload,
-/// or refused as `Range` if it is a turn of no bytes or of more than 65535.
+/// its fields are, the line can be read. These bytes are read as this line, without what is stamped before a payload.
+/// Or they are refused as `Range` if it is a turn of no bytes or of more than 65535.
 pub fn write_line<V: TellingWriter>(line: &Line, output: &mut V) -> Result<(), Fault>
     ensures line { IsLine (before_stamp line.now) }
     ensures written { WritesText V.told V.answers output.old output.new (spelling_of line.now ++ codes "\n") result }
@@ -25,8 +25,8 @@ pub fn write_line<V: TellingWriter>(line: &Line, output: &mut V) -> Result<(), F
     write_spelled(&mut text, output)
 }
 
-/// Writes the line that makes an event, as `write_line` does: a command as its line, a packet as `send`, a write as a
-/// turn that offers as many bytes as were written, and a fault as `torn`. No payload is copied.
+/// Writes the line that makes an event, as `write_line` does. It writes a command as its line, and a packet as `send`.
+/// It writes a write as a turn that offers as many bytes as were written, and a fault as `torn`. No payload is copied.
 pub fn write_event<V: TellingWriter>(event: &Event, output: &mut V) -> Result<(), Fault>
     ensures line { IsLine (before_stamp (event_line event.now)) }
     ensures written { WritesText V.told V.answers output.old output.new (written_line (event_line event.now)) result }

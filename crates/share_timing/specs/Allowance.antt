@@ -26,7 +26,7 @@ is_left a = nat_lt (9017 * 1000000000) a.room
 abbrev pub after_bytes : ℕ → AllowanceView → AllowanceView
 after_bytes count a = record a { room = a.room - count * 1000000000 }
 
--- an allowance of a rate after that many bytes and that many nanoseconds: each frame was sent while some of it was
+-- an allowance of a rate after that many bytes and that many nanoseconds. Each frame was sent while some of it was
 -- left, and had at most 9017 bytes
 pub data Keeps (rate : ℕ) : ℕ → ℕ → AllowanceView → Type 0 where
   began : Keeps rate 0 0 (full_allowance rate)

@@ -10,8 +10,8 @@ const FIRST: u64 = 100;
 /// The longest pause, in milliseconds, and how long a connection stands before the first pause comes again.
 const LONGEST: u64 = 5000;
 
-/// When an uplink is dialled again: after 0.1 seconds, then twice as long each time, up to 5 seconds; after 0.1 seconds
-/// again once a connection stood for 5 seconds. A contract sees the pause that comes next, in milliseconds.
+/// The pause before an uplink is dialled again. It is 0.1 seconds, then twice as long each time, up to 5 seconds. It is
+/// 0.1 seconds again once a connection stood for 5 seconds. A contract sees the pause that comes next, in milliseconds.
 #[derive(Debug, Drop)]
 pub struct Redial {
     pause: u64,

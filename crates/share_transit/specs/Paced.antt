@@ -30,9 +30,9 @@ turn_made NoRoom next ends = []
 turn_made Spent next ends = []
 turn_made Idle next ends = []
 
--- The calls from the beginning on: the text that was handed to the disk; the turns; what the wire took before each
--- `again`, the earliest first; what it took since the last one; the transit; and the open book. A book makes other
--- events between turns, and the next book is opened when all text of the one before was handed over.
+-- The calls from the beginning on. They have the text that was handed to the disk, and the turns. Then come what the
+-- wire took before each `again`, the earliest first, and since the last one. Last come the transit and the open book. A
+-- book makes other events between turns, and the next book is opened when all text of the one before was handed over.
 pub data Paced : List ℕ → List TextTurn → List (List ℕ) → List ℕ → TransitView → Audited → Type 0 where
   began : (a : Audited) → Paced [] [] [] [] empty_transit a
   turned : (handed : List ℕ) (turns : List TextTurn) (before : List (List ℕ)) (given : List ℕ) (t : TransitView)
@@ -74,7 +74,7 @@ AreBeyond n [] = Unit {0}
 AreBeyond n (t ∷ ts) = (n < t.ends) × AreBeyond n ts
 
 -- The turns whose text is written are the first ones. The wire took their frames alone, in order, up to those that are
--- left, of which all bytes are ready that are not out; and the frames of the other turns wait after them.
+-- left, of which all bytes are ready that are not out. The frames of the other turns wait after them.
 pub record FollowsText (handed : List ℕ) (turns : List TextTurn) (before : List (List ℕ)) (given : List ℕ)
     (t : TransitView) (a : Audited) : Type 0 where
   pub counted : t.handed ≡ length handed

@@ -11,8 +11,8 @@ use Rattle.share_book.specs.declared.book.Turned.TheVariants.{NoText, NoRoom, Sp
 use Rattle.share_gateway.specs.Outbox.{OutboxView, empty_outbox, allow_more}
 use Rattle.share_transit.specs.declared.transit.Due.{Due}
 
--- the outbox; the frames whose text is not written, which are the last ones in it; how many bytes of text were handed
--- to the disk; and how many of these it has written
+-- the outbox, and the frames whose text is not written, which are the last ones in it. Then the bytes of text handed to
+-- the disk, and those that it has written
 pub record TransitView : Type 0 where
   pub outbox : OutboxView
   pub due : List Due
@@ -57,7 +57,7 @@ pub record TurnsInto (old : TransitView) (before : Audited) (turned : Turned) (n
 
 -- ---- Text for the disk
 
--- the number of bytes of a text that go on a page: as many as have room, of at most 2^64 - 1 over the whole life
+-- the number of bytes of a text that go on a page: those that have room, of at most 2^64 - 1 over the whole life
 abbrev pub handed_count : TransitView → List ℕ → List ℕ → ℕ
 handed_count t page text = min (min (65536 - length page) (length text)) ((2 ^ 64 - 1) - t.handed)
 

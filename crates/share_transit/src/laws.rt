@@ -10,8 +10,8 @@ use share_gateway::outboxes_give_frames_in_order;
 /// Frames follow their text, over all books, redials and faults of the disk. The turns whose text the disk has written
 /// are the first ones. The bytes that the wire took are their frames, whole and in order. Between one `again` and the
 /// next it goes on with the first frame that was not out whole, from its beginning. No byte of another frame went to
-/// the wire. The bytes that are ready are all that are left of those frames, and the frames of the other turns wait,
-/// each once and in order.
+/// the wire. The bytes that are ready are all that are left of those frames. The frames of the other turns wait, each
+/// once and in order.
 pub fn frames_follow_their_text()
     ensures { (handed : List ℕ) (turns : List TextTurn) (before : List (List ℕ)) (given : List ℕ) (t : TransitView)
         (a : Audited) → Paced handed turns before given t a → FollowsText handed turns before given t a }

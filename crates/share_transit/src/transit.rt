@@ -16,8 +16,8 @@ use std::marker::Model;
 /// The most frames that an outbox holds.
 const MAX_FRAMES: usize = 4096;
 
-/// A frame that the disk's progress does not allow on the wire: where the text of its turn ends, counted in bytes of
-/// the text of all books, and how many bytes the frame has.
+/// A frame that the disk's progress does not allow on the wire. It has the end of the text of its turn, counted in
+/// bytes of the text of all books, and the frame's length in bytes.
 #[derive(Clone, Copy)]
 pub struct Due {
     ends: u128,

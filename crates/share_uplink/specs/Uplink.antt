@@ -14,10 +14,11 @@ use Rattle.share_uplink.specs.declared.state.UplinkState.TheVariants.{Up, Dialli
 use Rattle.share_uplink.specs.declared.state.Work.{Work}
 use Rattle.share_uplink.specs.declared.state.Work.TheVariants.{Rests, Busy, Connected, Lost, Unreachable}
 
--- the address and the size that is asked for its send buffer; whether it is connected, and if not, whether a dial
--- began; since when either is so, or else when it is dialled; the pause before the next dial but one, in milliseconds;
--- the readiness of its socket; how many bytes the last connection was given, and all of them; how many may be lost
--- at the near end, by the last loss and by all; and what kind of fault the last loss or failed dial had
+-- the address, and the size that is asked for its send buffer. Then whether it is connected, and if not, whether a dial
+-- began. Then since when either is so, or otherwise when it is dialled, and the milliseconds of the pause before the
+-- next dial but one. Then the readiness of its socket, and the bytes that the last connection was given, and all. Last
+-- the bytes that may be lost at the near end, by the last loss and by all. And the kind of fault of the last loss or
+-- failed dial
 pub record UplinkView : Type 0 where
   pub address : SocketAddr
   pub buffer : ℕ
@@ -106,8 +107,8 @@ given_more n u = record u { given = capped (u.given + n); sent = capped (u.sent 
 abbrev pub connected : ℕ → UplinkView → UplinkView
 connected now u = record u { state = Up; dials = false; since = now; given = 0 }
 
--- the bytes of a connection that its socket may hold: at most what it was given, and at most twice what was asked for
--- and a segment of 65536
+-- the bytes of a connection that its socket may hold. They are at most what it was given, and at most twice what was
+-- asked for and a segment of 65536
 abbrev pub at_risk : UplinkView → ℕ
 at_risk u = min u.given (2 * u.buffer + 65536)
 

@@ -1,5 +1,5 @@
-//! The answers of a gateway to a browser and to a scrape of metrics: what the head of a request asks for, and the bytes
-//! of each answer. Nothing is read or sent here.
+//! The answers of a gateway to a browser and to a scrape of metrics. The crate has the meaning of a request's head, and
+//! the bytes of each answer. Nothing is read or sent here.
 #![tactic(auto)]
 
 mod answer;

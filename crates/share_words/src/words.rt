@@ -222,8 +222,8 @@ fn wrong_service(orders: &ServeOrders<'_>) -> Option<&'static str>
     Some(NO_CONNECTIONS)
 }
 
-// The fault of numbers that are out of range. `clap` refuses these; but its contract says so only of the
-// arguments of a command, and not of those of a subcommand, so they are tested once more.
+// The fault of numbers that are out of range. `clap` refuses these. But its contract says so only of the arguments of a
+// command, and not of those of a subcommand, so they are tested once more.
 fn out_of_range(asked: &Asked<'_>) -> Option<&'static str>
     requires { (text : _) → asked.now ≢ Asked.Text text }
     ensures { result ≡ None → CanBeObeyed asked.now }

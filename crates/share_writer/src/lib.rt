@@ -1,5 +1,5 @@
-//! Books are written to disk beside the thread of the loop: by a thread that writes the text of the open book, and by
-//! one that begins, syncs and closes books. A queue leads from the loop to both.
+//! Books are written to disk beside the thread of the loop. One thread writes the text of the open book, and one
+//! begins, syncs and closes books. A queue leads from the loop to both.
 #![tactic(auto)]
 
 mod attempts;

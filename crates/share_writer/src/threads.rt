@@ -22,8 +22,8 @@ use std::{io, thread};
 /// stop.
 const WRITER_JOBS: usize = PAGES + MOST_CLOSES as usize + 3;
 
-/// The number of jobs that the filer may have at once, so that no send waits: the closes, the books to be made durable,
-/// a sync and a stop.
+/// The number of jobs that the filer may have at once, so that no send waits. They are the closes, the books to be made
+/// durable, a sync and a stop.
 const FILER_JOBS: usize = 2 * MOST_CLOSES as usize + 4;
 
 /// The ends of the channels between the three threads.

@@ -30,10 +30,10 @@ pub struct Ungathered {
 }
 
 impl Intake {
-    /// Joins all ends of this queue to the intake, and says how many offers were popped of each worker, in the order of
-    /// the workers: all that its end queued. Afterwards each worker is closed, and no more offers can be taken.
-    /// Errors, in the order of the tests: `Mismatch` if an end is missing, `LeftOver` if one has queued more than was
-    /// popped of its worker, `NoMemory`. Then intake and ends come back as they were.
+    /// Joins all ends of this queue to the intake. Returns the number of offers popped of each worker, in the order of
+    /// the workers: all that its end queued. Afterwards each worker is closed, and no more offers can be taken. Errors,
+    /// in the order of the tests: `Mismatch` if an end is missing, `LeftOver` if one queued more than was popped of its
+    /// worker, `NoMemory`. Then intake and ends come back as they were.
     pub fn gather(
         self,
         alloc: Global,

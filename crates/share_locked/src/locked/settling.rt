@@ -34,8 +34,8 @@ pub enum WhyUnsettled {
     NoMemory,
 }
 
-/// A settled link: its recorder; how many offers were taken of each worker, in the order of the workers; how many
-/// arrivals the journal has, refused ones too; and how many commands it has.
+/// A settled link. It has its recorder, and the number of offers taken of each worker, in the order of the workers.
+/// Then the numbers of the journal's arrivals, refused ones too, and of its commands.
 #[derive(Drop)]
 pub struct Settled<W: TellingWriter, S: Rates> {
     pub recorder: Recorder<W, S>,

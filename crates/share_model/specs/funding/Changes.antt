@@ -1,5 +1,5 @@
--- The effect of each command on the graph of tickets and currencies, and when it is refused: a table of tests, in
--- the order in which they are made.
+-- The effect of each command on the graph of tickets and currencies, and when it is refused. The latter is a table of
+-- tests, in the order in which they are made.
 use Rattle.std.specs.Prelude.{ℕ, ◌+◌, ◌^◌, Bool, true, false, not, ◌&&◌, ◌||◌, List, [], ◌∷◌, ◌++◌, map, length, find}
 use Rattle.std.specs.Prelude.{nat_eq, nat_le, bytes_eq, Option, None, Some, is_some, if◌then◌else◌}
 use Rattle.std.specs.List.{list_any}

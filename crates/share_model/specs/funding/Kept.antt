@@ -78,8 +78,8 @@ kept_worth g amount value t =
     then (if bytes_eq t.denomination base then t.amount else value t.denomination * t.amount / amount t.denomination)
     else 0
 
--- Kept amounts and values meet the equations of one step: an amount is the sum over those tickets of the currency whose
--- holder is awake, a value the sum of what the backing is worth.
+-- Kept amounts and values meet the equations of one step. An amount is the sum over those tickets of the currency whose
+-- holder is awake. A value is the sum of what the backing is worth.
 pub record IsCached (g : Graph) (amount value : NameBytes → ℕ) : Type 0 where
   pub amounts : (c : NameBytes)
       → amount c ≡ sum_by (λ (t : Ticket). if is_awake g amount t.holder then t.amount else 0)

@@ -22,7 +22,7 @@ ticket_for n amount c f = record { number = n; amount = amount; denomination = c
 abbrev flow_entry : ℕ → List ℕ → Bool → NameBytes × OpenFlow
 flow_entry f name active = (name, record { number = f; active = active })
 
--- three currencies deep: 100 of base back x, 3 of x back y, 4 of x fund a, and 1 of y each fund b and c
+-- three currencies deep. 100 of base back x, 3 of x back y, 4 of x fund a, and 1 of y each fund b and c
 three_deep : Bool → Bool → Graph
 three_deep b c = record {
   currencies = x ∷ y ∷ [];

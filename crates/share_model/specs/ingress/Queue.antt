@@ -1,4 +1,4 @@
--- The rule of the queue from the workers to the link: what the end of a worker pushed is what the intake popped of it,
+-- The rule of the queue from the workers to the link. What the end of a worker pushed is what the intake popped of it,
 -- and then what the queue holds of it.
 use Rattle.std.specs.Prelude.{◌≡◌, ◌≤◌, ℕ, suc, Bool, true, false, ◌||◌, nat_eq, List, [], ◌∷◌, ◌++◌, length}
 use mathlib.Core.Option.{some}

@@ -1,5 +1,5 @@
--- The records of an ingress stream: the length of a name in one byte, the name, the length of a payload in two bytes,
--- high byte first, and the payload.
+-- The records of an ingress stream. A record has the length of a name in one byte, and the name. Then come the length
+-- of a payload in two bytes, big-endian, and the payload.
 use Rattle.std.specs.Prelude.{◌≡◌, ◌<◌, ◌+◌, ◌*◌, ◌/◌, ◌%◌, ⊤, ℕ, Bool, true, false, ◌&&◌, nat_le}
 use Rattle.std.specs.Prelude.{List, [], ◌∷◌, ◌++◌, length}
 use Rattle.share_model.specs.lists.Each.{Each}

@@ -11,7 +11,7 @@ pub data Repeats {W : Type 0} (answers : W → List ℕ → Answer → W → Typ
   one_repeat : (n : ℕ) (before after : W) → Repeats answers piece first n before
       → answers before piece Interrupted after → Repeats answers piece first (n + 1) after
 
--- the piece was offered, and offered again as long as the offer was interrupted, at most `most` times; the answer is
+-- the piece was offered, and offered again as long as the offer was interrupted, at most `most` times. The answer is
 -- that to the last offer, and an interruption only if the piece was offered again `most` times
 pub record PatientAnswers {W : Type 0} (answers : W → List ℕ → Answer → W → Type 0) (most : ℕ) (before : W)
     (piece : List ℕ) (answer : Answer) (after : W) : Type 0 where

@@ -1,5 +1,5 @@
--- Frames. In order: two bytes that name the format and its version; in version 2 the number of the flow's tariff; the
--- flow number, the sequence number and the length of the payload, each high byte first; and the payload.
+-- Frames. First come two bytes that name the format and its version, and in version 2 the number of the flow's tariff.
+-- Then come the flow number, the sequence number and the length of the payload, each big-endian, and the payload.
 use Rattle.std.specs.Prelude.{◌<◌, ◌≤◌, ◌^◌, ◌+◌, ℕ, List, [], ◌∷◌, ◌++◌, length, ⊤}
 use Rattle.std.specs.Int.{to_be_bytes, w16, w32, w64}
 use Rattle.share_base.specs.Version.{header_length}
@@ -61,7 +61,7 @@ abbrev pub FitsSeq : Version → ℕ → Type 0
 FitsSeq One seq = seq < 2 ^ 32
 FitsSeq Two seq = seq < 2 ^ 64
 
--- a packet that a frame carries, under this tariff: its flow is 1 to 2^32 - 1, its sequence number at least 1, and its
+-- a packet that a frame carries, under this tariff. Its flow is 1 to 2^32 - 1, its sequence number at least 1, and its
 -- payload 1 to 1490 bytes, or 9000
 pub record FitsFrame (version : Version) (number : ℕ) (h : Packet) : Type 0 where
   pub tariff : FitsTariff version number

@@ -1,6 +1,6 @@
 -- The contents of a link. `Commands`, `Arrivals` and `Turns` say what each event does to it, and `Step` is one event.
--- Together they are the fold that the code is proved to compute: a plain program over lists and a map, which computes
--- the tickets of each flow from scratch.
+-- Together they are the fold that the code is proved to compute. It is a plain program over lists and a map, which
+-- computes the tickets of each flow from scratch.
 use Rattle.std.specs.Prelude.{ℕ, ◌+◌, ◌==◌, Bool, false, List, [], map, Option, None, Some}
 use Rattle.share_base.specs.declared.refusal.Refusal.{Refusal}
 use Rattle.share_base.specs.declared.version.Version.{Version}
@@ -17,9 +17,9 @@ use Rattle.share_model.specs.funding.Graph.{NameBytes, Graph, empty_graph, ticke
 
 -- The state
 
--- the contents of a link: the version of its frames, which no event changes; the funding; the queue, of which each
--- open flow is a client; the buffers and the books of the open flows, in order of opening; the frame in part; the
--- open flow whose head packet was torn; whether the link is broken; and the counts
+-- the contents of a link. They are the version of its frames, which no event changes, the funding, and the queue, of
+-- which each open flow is a client. Then the buffers and the books of the open flows, in order of opening. Last the
+-- frame in part, the open flow whose head packet was torn, whether the link is broken, and the counts
 pub record Live : Type 0 where
   pub version : Version
   pub graph : Graph

@@ -27,8 +27,8 @@ abbrev pub largest_gain : {W : Type 0} → ℕ → LinkView W → List (LinkView
 largest_gain flow first [] = pos 0
 largest_gain flow first (next ∷ later) = int_max (gain flow first next) (largest_gain flow next later)
 
--- the gain of `one` in a chain is at most the greater of 0 and a sum of three terms: the gain of `other`, the distance
--- by which the place of `other` was ahead at the start, and the largest gain of `one` in a single call
+-- the gain of `one` in a chain is at most the greater of 0 and a sum of three terms. They are the gain of `other`, the
+-- distance that its place was ahead at the start, and the largest gain of `one` in a single call
 abbrev pub GainsWithinShare : {W : Type 0} → ℕ → ℕ → LinkView W → List (LinkView W) → Type 0
 GainsWithinShare one other first later =
     gain one first (last_link first later)
@@ -37,8 +37,8 @@ GainsWithinShare one other first later =
     +ℤ (place_of first other -ℤ place_of first one)
     +ℤ largest_gain one first later)
 
--- in every chain of calls on this link that begins with no frame in part, while two flows compete, each with tickets
--- that stay the same, either gains within its share beside the other
+-- in every chain of calls on this link that begins with no frame in part, either of two flows gains within its share.
+-- The condition is that both compete throughout, each with tickets that stay the same
 abbrev pub SharesAreKept : {W : Type 0} → (W → List ℕ → Answer → W → Type 0) → LinkView W → Type 0
 SharesAreKept answers first =
     (later : List (LinkView _)) (one other one_tickets other_tickets : ℕ) → one ≢ other → first.live.part ≡ None

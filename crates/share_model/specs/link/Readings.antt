@@ -25,7 +25,7 @@ pub record TicketsAreWithin {W : Type 0} (link : LinkView W) : Type 0 where
       ≡ map (λ n. Some n) answers
   pub within : sum answers ≤ active link.live.graph base
 
--- while at most 2^20 of `base` is issued, `tickets` answers what the tickets that fund the flow are worth together: the
+-- while at most 2^20 of `base` is issued, `tickets` answers what the tickets that fund the flow are worth together. The
 -- cap of 2^20 does not lower it
 abbrev pub TicketsAreUncapped : {W : Type 0} → LinkView W → Type 0
 TicketsAreUncapped link = issued_amount link.live.graph base ≤ 2 ^ 20

@@ -1,5 +1,5 @@
 -- The fold of a link, checked against worked examples: each equation holds by computation alone. The entries of a
--- finite map do not compute, so no row asks for the next flow: a frame is in part if a row begins with a write.
+-- finite map do not compute, so no row asks for the next flow. A frame is in part if a row begins with a write.
 use Rattle.std.specs.Prelude.{◌≡◌, ℕ, true, false, List, [], ◌∷◌, ◌++◌, map, take, codes, Option, None, Some, refl}
 use Rattle.share_base.specs.Body.{unstamped}
 use Rattle.share_base.specs.declared.refusal.Refusal.TheVariants.{Range, NoTicket, NoFlow, NoTariff, Taken, Sending}

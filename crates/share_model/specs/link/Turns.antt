@@ -15,8 +15,8 @@ use Rattle.share_model.specs.link.Books.{books_with_units, units_due, is_held, t
 
 -- The packet that is sent
 
--- a frame that a write goes on with: its version, the number of its flow's tariff, its packet, and how many of its
--- bytes are out
+-- a frame that a write goes on with: its version, the number of its flow's tariff, its packet, and its bytes that are
+-- out
 pub record Sending : Type 0 where
   pub version : Version
   pub tariff : ℕ
@@ -83,8 +83,8 @@ abbrev pub write_step : List Rate → Live → Sending → ℕ → Live × Turn
 write_step rates l s k =
     if is_whole s k then (whole rates l s k, wrote_turn s k true) else (in_part l s k, wrote_turn s k false)
 
--- the writer failed: the flow is charged and posted for the bytes that are out, the torn packet stays at the head
--- of its buffer, and the link is broken for good
+-- the writer failed. The flow is charged and posted for the bytes that are out. The torn packet stays at the head of
+-- its buffer, and the link is broken for good
 abbrev pub torn_link : List Rate → Live → Sending → Live
 torn_link rates l s =
     let units = units_due rates l.books s.head.flow s.out in

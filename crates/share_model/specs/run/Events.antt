@@ -1,6 +1,5 @@
 -- The events that a link makes. It makes none after its life. Commands and arrivals have fields that a line can spell.
--- A write or a fault comes only while the link is not broken and has a frame to send, and a write has at least one
--- byte.
+-- A write or a fault comes only while the link is not broken and has a frame to send. A write has at least one byte.
 use Rattle.std.specs.Prelude.{◌≡◌, ◌<◌, ◌≤◌, ℕ, false, List, [], ◌∷◌, length, take, flat_map, Option, None, Some}
 use Rattle.share_base.specs.Body.{IsUnstamped}
 use Rattle.share_base.specs.declared.command.Event.{Event}

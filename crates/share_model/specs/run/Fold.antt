@@ -1,5 +1,5 @@
--- The state of a run: what the link holds, the packets that were written whole, and the torn one; and the bytes that a
--- run has written.
+-- The state of a run. It has what the link holds, the packets that were written whole, the torn one, and the bytes that
+-- a run has written.
 use Rattle.std.specs.Prelude.{ℕ, List, [], ◌∷◌, ◌++◌, take, flat_map, Option, None, Some, option_map}
 use Rattle.std.specs.Prelude.{if◌then◌else◌}
 use Rattle.share_base.specs.declared.command.Event.{Event}

@@ -1,6 +1,6 @@
--- The invariant of every link that events have made, layer by layer: the bounds that keep each number in its type,
--- and the ties between the funding, the queue, the buffers and the books. Callers learn it from each call; the laws
--- say that each event keeps it.
+-- The invariant of every link that events have made, layer by layer. It has the bounds that keep each number in its
+-- type, and the ties between the funding, the queue, the buffers and the books. Callers learn it from each call; the
+-- laws say that each event keeps it.
 use Rattle.std.specs.Prelude.{◌≡◌, ◌⊎◌, ◌<◌, ◌≤◌, ◌+◌, ◌-◌, ◌*◌, ◌^◌, ℕ, Bool, true, false, not, List, map, length}
 use Rattle.std.specs.Prelude.{sum_by}
 use Rattle.std.specs.Prelude.{◌&&◌, Option, None, Some, IsTrue, is_some}
@@ -68,7 +68,7 @@ pub record FlowsAreTied (es : List (NameBytes × OpenFlow)) (buffers : List Buff
 abbrev pub max_life : ℕ
 max_life = 2 ^ 24
 
--- the clients are the open flows, an event charges at most 11842 units, and the queue is sound if the life is at most
+-- the clients are the open flows, and an event charges at most 11842 units. The queue is sound if the life is at most
 -- the longest one
 pub record QueueIsSound (life events : ℕ) (flows : List ℕ) (q : Stride) : Type 0 where
   pub clients : (f : ℕ) → is_some (get q.clients f) ≡ has_number f flows
@@ -119,7 +119,7 @@ abbrev pub TornIsNamed : List Buffer → Bool → Option ℕ → Type 0
 TornIsNamed buffers broken None = Unit {0}
 TornIsNamed buffers broken (Some f) = NamesTorn buffers broken f
 
--- a link names the flow of a torn packet only if it is broken and that flow has a packet; a broken link has no frame in
+-- a link names the flow of a torn packet only if it is broken and that flow has a packet. A broken link has no frame in
 -- part
 pub record TornIsSound (buffers : List Buffer) (broken : Bool) (torn : Option ℕ) (part : Option Part) : Type 0 where
   pub named : TornIsNamed buffers broken torn

@@ -35,7 +35,7 @@ one_frame : after_charge (after_join 0 new_client 3) 1024
     ≡ competing 3 366503875925 (pos 366503875925) (pos 733007751850)
 one_frame = refl
 
--- a flow falls from 1000 tickets to 333 as another joins, and rises to 1000 again: its remain is rescaled by the
+-- a flow falls from 1000 tickets to 333 as another joins, and rises to 1000 again. Its remain is rescaled by the
 -- strides, and not by the tickets, which would give 3301836717 and 1094858746
 fewer_tickets : (after_join 0 (after_leave 0 (after_join 0 new_client 1000)) 333).pass ≡ pos 3301836720
 fewer_tickets = refl

@@ -29,8 +29,8 @@ ChargesLeast one other [] = Unit {0}
 ChargesLeast one other (One n ∷ rest) = (one ≤ℤ other) × ChargesLeast (one +ℤ pos n) other rest
 ChargesLeast one other (Other n ∷ rest) = ChargesLeast one (other +ℤ pos n) rest
 
--- the charges to `one` are at most the greater of 0 and a sum of three terms: those to `other`, the distance by which
--- the pass of `other` was ahead at the start, and the largest charge to `one`
+-- the charges to `one` are at most the greater of 0 and a sum of three terms. They are those to `other`, the distance
+-- that the pass of `other` was ahead at the start, and the largest charge to `one`
 abbrev pub IsWithinShare : ℤ → ℤ → List Charge → Type 0
 IsWithinShare one other charges =
     pos (to_one charges) ≤ℤ int_max (pos 0) (pos (to_other charges) +ℤ (other -ℤ one) +ℤ pos (largest_to_one charges))

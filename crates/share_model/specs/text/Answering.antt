@@ -9,7 +9,7 @@ use Rattle.share_model.specs.run.Ends.{IsEndOf, TellsRun}
 use Rattle.share_model.specs.io.Told.{Told}
 use Rattle.share_model.specs.text.Talk.{Progress, start_of_script, is_first, line_answer, answer}
 
--- the link holds what the script came to, which before its first line is nothing; and if its writer reports bytes and
+-- the link holds what the script came to, which before its first line is nothing. If its writer reports bytes and
 -- counts, they are the script's
 pub record Holds {W : Type 0} (told : W → Option Told) (link : LinkView W) (p : Progress) : Type 0 where
   pub fresh : is_first p ≡ true → p ≡ start_of_script

@@ -52,8 +52,8 @@ limits_are_read : read (codes "open a-1_z 0 18446744073709551615" ∷ codes "sen
 unfolding read reading line_by number_of digits
 limits_are_read = refl
 
--- a number of 2^64, a leading zero, a sign, an upper-case digit, an odd number of digits, a missing payload, spaces
--- that are too many, an empty line, a carriage return, a NUL, names and kinds that are malformed, words too many
+-- a number of 2^64, a leading zero, a sign, an upper-case digit, an odd number of digits, a missing payload, and too
+-- many spaces. An empty line, a carriage return, a NUL, malformed names and kinds, and words too many
 faults_are_syntax : read (
     codes "turn 18446744073709551616" ∷ codes "fund 01 flow a" ∷ codes "turn +1" ∷ codes "send a 6A" ∷ codes "send a 6"
     ∷ codes "send a " ∷ codes "send a" ∷ codes "open  a 4 1" ∷ codes "open a 4 1 " ∷ codes " torn"

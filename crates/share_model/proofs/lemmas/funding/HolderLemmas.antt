@@ -1,5 +1,5 @@
--- Only tickets that have a holder count: if these are the same, in whatever order, and the same flows are active,
--- each flow has the same tickets.
+-- Only tickets that have a holder count. If these are the same, in whatever order, and the same flows are active, each
+-- flow has the same tickets.
 use Rattle.std.proofs.Common.{◌≡◌, ℕ, ◌*◌, ◌/◌, ◌^◌, zero, suc, Bool, true, false, not, cond, ◌&&◌, ◌||◌, min, List, []}
 use Rattle.std.proofs.Common.{◌∷◌, ◌++◌, ◌+◌, filter, find, sum_by, bytes_eq, nat_eq, Some, is_some, refl, sym}
 use Rattle.std.proofs.Common.{ap, ◌∙◌, arith}

@@ -1,5 +1,5 @@
--- Laws of buffers: the head packet of a flow after a packet was pushed or a buffer opened, and the ties between the
--- buffers and the open flows.
+-- Laws of buffers. They cover the head packet of a flow after a packet was pushed or a buffer opened. They also cover
+-- the ties between the buffers and the open flows.
 use Rattle.std.specs.Prelude.{◌≡◌, ◌<◌, ◌+◌, ◌-◌, ℕ, Bool, true, false, ◌&&◌, ◌||◌, List, [], ◌∷◌, ◌++◌, length, map}
 use Rattle.std.specs.Prelude.{not, suc, nat_eq, is_some, Option, None, Some, option_map, option_and_then, if◌then◌else◌}
 use Rattle.std.specs.List.{list_any}

@@ -1,4 +1,4 @@
--- The outcome of a turn of a link or a declared fault: the link stayed as it was, or one event of the writer was made.
+-- The outcome of a turn of a link or a declared fault. The link stayed as it was, or one event of the writer was made.
 use Rattle.std.specs.Prelude.{◌≡◌, ◌⊎◌, ◌==◌, ◌<◌, ◌≤◌, ℕ, Bool, true, false, List, [], ◌∷◌, ◌++◌, length, take, Option}
 use Rattle.std.specs.Prelude.{None, Some, option_map, MatchBool, if◌then◌else◌}
 use Rattle.std.proofs.Common.{refl, ap, sym, ◌∙◌, arith, inl, inr, length-take}

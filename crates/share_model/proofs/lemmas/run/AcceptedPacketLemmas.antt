@@ -1,5 +1,5 @@
--- A law of the packets that a run accepted: those of an open flow are, in order, those that were written whole of it
--- and those that its buffer holds; and those written whole of any flow come first.
+-- A law of the packets that a run accepted. Those of an open flow are, in order, those that were written whole of it
+-- and those that its buffer holds. Those written whole of any flow come first.
 use Rattle.std.specs.Prelude.{◌≡◌, ◌<◌, ◌≤◌, ℕ, Bool, true, false, not, ◌&&◌, ◌||◌, List, [], ◌∷◌, ◌++◌, nat_eq}
 use Rattle.std.specs.Prelude.{Option, None, Some, is_some, if◌then◌else◌}
 use Rattle.std.specs.Set.{remove_key}
@@ -53,7 +53,7 @@ use Rattle.share_model.specs.run.History.{sent_packets}
 -- Each event
 
 -- the first of these packets of a flow were written whole, and the others are those that its buffer holds while it is
--- open; a flow that was not opened yet has none
+-- open. A flow that was not opened yet has none
 record AreAccepted (f : ℕ) (hs : List Packet) (l : Live) (done : List Sent) : Type 0 where
   rest : List Packet
   split : hs ≡ packets_of f (sent_packets done) ++ rest

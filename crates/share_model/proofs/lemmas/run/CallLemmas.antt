@@ -58,8 +58,8 @@ turn_outcomes Again = []
 turn_outcomes Broken = []
 turn_outcomes Spent = []
 
--- whatever run left what the link held, these events with these outcomes follow it, and leave what the link holds now;
--- and if the writer reported the bytes of that run and the counts of its writes, it reports those of this one
+-- whatever run left what the link held, these events with these outcomes follow it, and leave what the link holds now.
+-- If the writer reported the bytes of that run and the counts of its writes, it reports those of this one
 pub record Ran {W : Type 0} (told : W → Option Told) (old : LinkView W) (events : List Event) (made : List Outcome)
     (new : LinkView W) : Type 0 where
   pub life : new.life ≡ old.life

@@ -1,5 +1,5 @@
--- A script is a run of its events: it comes to their state, they may follow one another, and it is answered with the
--- texts of their outcomes.
+-- A script is a run of its events. It comes to their state, and is answered with the texts of their outcomes. The
+-- events may follow one another.
 use Rattle.std.specs.Prelude.{◌+◌, ◌≡◌, ◌<◌, ◌≤◌, ◌==◌, ℕ, Bool, true, false, ◌&&◌, List, [], ◌∷◌, ◌++◌, drop, length}
 use Rattle.std.specs.Prelude.{codes}
 use Rattle.std.specs.Prelude.{nat_le, Option, None, Some, Result, Ok, Err, refl, if◌then◌else◌}
@@ -41,7 +41,7 @@ use Rattle.share_model.specs.text.Texts.{line_text}
 
 -- The lines that choose a version
 
--- the state at which the events of a line begin: that of before it, or that of a new link of the version that it
+-- the state at which the events of a line begin. It is that of before it, or that of a new link of the version that it
 -- chooses
 abbrev pub chosen : State → Made → State
 chosen s (makes e) = s

@@ -1,5 +1,5 @@
--- A line that finds no memory says so. If no line of the answers is `no 1 NoMemory`, the answers and the state are
--- those of a script that finds memory for each line.
+-- A line that finds no memory says so. Take answers of which no line is `no 1 NoMemory`. They and the state are those
+-- of a script that finds memory for each line.
 use Rattle.std.specs.Prelude.{◌≡◌, ◌≢◌, ◌⊎◌, ℕ, Bool, true, false, List, [], ◌∷◌, ◌++◌, drop, map, flat_map, codes}
 use Rattle.std.specs.Prelude.{◌&&◌, not, None, Some, is_none, Result, Ok, Err, refl}
 use Rattle.std.specs.Fmt.{digits}

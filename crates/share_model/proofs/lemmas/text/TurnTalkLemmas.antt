@@ -1,4 +1,4 @@
--- Turns and declared faults of a script: if a link holds the state that a script left, and its writer that state's
+-- Turns and declared faults of a script. If a link holds the state that a script left, and its writer that state's
 -- bytes, each goes on with both.
 use Rattle.std.specs.Prelude.{◌≡◌, ◌≢◌, ◌≤◌, ℕ, Bool, true, false, List, [], ◌∷◌, length, min, Option}
 use Rattle.std.specs.Prelude.{None, Some, MatchBool, refl}

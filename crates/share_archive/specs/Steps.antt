@@ -91,7 +91,7 @@ HasRow s = (s.text ≡ Absent) ⊎ ((s.row ≡ Whole) × HasReport s)
 abbrev pub IsUncut : RowState → Type 0
 IsUncut row = without_cut row ≡ row
 
--- a step may be made now: the report before the row, and the tariffs' file stays until the row is whole
+-- a step may be made: the report before the row, and the tariffs' file stays until the row is whole
 abbrev pub May : Step → BookState → Type 0
 May CutRow s = s.row ≡ Cut
 May RemovePart s = s.part ≡ true

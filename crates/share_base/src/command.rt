@@ -71,7 +71,7 @@ impl Reply {
 /// The answer to a turn of the link.
 #[derive(Clone, Copy, Debug, PartialEq, Eq)]
 pub enum Turn {
-    /// The writer accepted `k` bytes of the frame of this packet. The frame is now `whole`, or still in part.
+    /// The writer accepted `k` bytes of the frame of this packet. The frame is `whole`, or still in part.
     Wrote {
         flow: FlowNo,
         seq: u32,

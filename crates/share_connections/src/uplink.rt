@@ -19,7 +19,7 @@ const MOST_READS: u64 = 4096;
 /// The most bytes that each of them reads.
 const AWAY: usize = 4096;
 
-/// Stands for no fault, where the system's number of a fault would.
+/// Stands for no fault, in place of the system's number of a fault.
 const NO_FAULT: i32 = 0;
 
 /// Stands for a call that took nothing, which has no number.

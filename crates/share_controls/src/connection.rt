@@ -159,7 +159,7 @@ impl ControlConnection {
     }
 
     /// The line at the front. It stays there until it is passed. Nothing is read if a line is there, or too many bytes
-    /// of replies wait. If a line comes to the front, it comes now.
+    /// of replies wait. If a line comes to the front, it does so at `now`.
     pub fn front(&mut self, now: Instant) -> Front
         ensures { Fronts self.old (instant_nanos now) result self.new }
     {

@@ -101,7 +101,7 @@ still_in k n f same none =
     ≡ not (is_held k.live.books f)) (sym same)
     (wakes-none (is_busy n.live.buffers f) (is_held n.live.books f) none)
 
--- the flows are clients also after one of them became active, or not
+-- the flows are still clients after one of them became active, or not
 pub can-set_active : {life : ℕ} {rates : List Rate} {l : Live} → Sound life rates l → (q : Stride)
     → QueueIsSound life (l.counts.events + 1) (flow_numbers l.graph.flows) q → (f : ℕ) (t : Bool)
     → CanLevel q (tickets_of_all (set_active l.graph f t))

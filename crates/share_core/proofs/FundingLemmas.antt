@@ -18,7 +18,7 @@ pub sound-done : {life : ℕ} {rates : List Rate} {l : Live} → Sound life rate
 sound-done {life = life} {rates = rates} {l = l} was few c allowed =
     subst (λ o. Sound life rates (by_refusal l o (change_by_command l c)).0) allowed (sound-commanded was few c)
 
--- the flows are clients also after a change of currencies and tickets
+-- the flows are still clients after a change of currencies and tickets
 pub can-level : {life : ℕ} {rates : List Rate} {l : Live} → Sound life rates l → (now made : Graph) → now ≡ made
     → made.flows ≡ l.graph.flows → CanLevel l.queue (tickets_of_all now)
 can-level {life = life} {l = l} was now made is flows =

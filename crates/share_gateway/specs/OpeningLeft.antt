@@ -32,7 +32,7 @@ abbrev pub gap_list : Entry → ℕ → List PlanCommand
 gap_list entry zero = []
 gap_list entry (suc n) = gap_commands entry ++ gap_list entry n
 
--- from the flow number n on, where the first of these tenants, with the number i, has it or a greater one
+-- from the flow number n on, if the first of these tenants, with the number i, has it or a greater one
 abbrev pub flows_from : ℕ → ℕ → List TenantView → List PlanCommand
 flows_from i n [] = []
 flows_from i n (t ∷ ts) = gap_list (Tenant i) (t.flow - n) ++ open_command (i, t) ∷ flows_from (i + 1) (t.flow + 1) ts

@@ -6,6 +6,6 @@ use Rattle.atomic_table.specs.Seated.{TableId}
 abbrev pub LinkName : Type 0
 LinkName = TableId
 
--- a name where one is needed that nothing reads
+-- a name that nothing reads, for a place that needs one
 abbrev pub no_link : LinkName
 no_link = record { words = 0; slots = 0; views_name = 0; atom = 0; block = 0; offset = 0; slot_names = [] }

@@ -54,7 +54,7 @@ module _ {X : Type 0} (number : X → ℕ) where
         equal : (m : ℕ) → m ≡ n → nat_eq n m ≡ true
         equal m is = grind (arith, nat_tests)
 
-    -- and none stands where all others are less or greater
+    -- and none stands anywhere if all others are less or greater
     stands-nowhere : (i : ℕ) (d : X) → ((k : ℕ) → k < i → number (get_or xs k d) < n)
         → ((k : ℕ) → i ≤ k → k < length xs → n < number (get_or xs k d))
         → position (λ x. nat_eq n (number x)) xs ≡ None

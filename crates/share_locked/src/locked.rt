@@ -175,7 +175,7 @@ impl<W: TellingWriter, S: Rates, L: LinkBrand> Locked<W, S, L> {
         self.recorder.turn(most)
     }
 
-    /// The report of the link as it is now. `NoMemory` if memory was refused.
+    /// The report of the link as it is. `NoMemory` if memory was refused.
     pub fn report(&self, alloc: Global) -> Result<Vec<u8>, Refusal>
         ensures ok { IfOk result (λ text. text.items ≡ report self.now.recorder.link.live) }
         ensures refused { IfErr result (λ e. e ≡ NoMemory) }

@@ -103,7 +103,7 @@ pub enum Standing {
 pub struct FlowLine {
     pub flow: FlowNo,
     pub name: Name,
-    /// The tickets that it has now: 0 while it is idle or held.
+    /// The tickets at this moment: 0 while it is idle or held.
     pub tickets: u32,
     /// The packets in its buffer, a torn one not counted.
     pub waiting: u32,

@@ -9,7 +9,7 @@ use std::alloc::{AllocError, Global};
 use std::fmt;
 use std::marker::Model;
 
-/// The names and the flow numbers of all tenants since the start of a gateway, also of those that are gone. A contract
+/// The names and the flow numbers of all tenants since the start of a gateway, those that are gone included. A contract
 /// sees them in the order in which they came.
 #[derive(Drop)]
 pub struct Roster {

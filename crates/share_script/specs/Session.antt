@@ -20,7 +20,7 @@ pub record HoldsScript {W : Type 0} (told : W → Option Told) (at : SessionView
   pub holds : Holds told at.link p
   pub place : is_first p ≡ at.first
 
--- the text of an answer of a link that holds this now
+-- the text of an answer of a link that holds this
 abbrev pub answer_text : Live → LineAnswer → List ℕ
 answer_text l (Outcome outcome) = line_text outcome
 answer_text l Report = report l

@@ -42,7 +42,8 @@ impl Tariff {
     /// 0 to 65535 a unit. `Range` if one of them is out of its range; then the closures are dropped. It takes no
     /// memory.
     ///
-    /// If the numbers are in range, the closures must follow the tariff's rule and may be called where it says so.
+    /// If the numbers are in range, the closures must follow the tariff's rule and may be called with the arguments
+    /// that it allows.
     pub fn new(
         cell: u64,
         overhead: u64,

@@ -51,7 +51,7 @@ impl State {
         }
     }
 
-    /// The dial that began succeeded now. Returns false if none began, and then nothing changes.
+    /// The dial that began succeeded at this moment. Returns false if none began, and then nothing changes.
     pub(crate) fn connect(&mut self, now: Instant) -> bool
         ensures began { result ≡ dials_of self.old }
         ensures up { result ≡ true → state_of self.new ≡ Up }
@@ -87,11 +87,11 @@ pub enum Work {
     Rests,
     /// More may be done at once.
     Busy,
-    /// It was connected just now.
+    /// It was connected in this call.
     Connected,
-    /// It was lost just now.
+    /// It was lost in this call.
     Lost,
-    /// A dial failed just now, or was given up.
+    /// A dial failed in this call, or was given up.
     Unreachable,
 }
 

@@ -49,7 +49,7 @@ empty_queue = record { clients = map.empty; pass = 0; last = 0; clock = 0 }
 
 -- ---- Tickets, strides and the global pass
 
--- rounded down, also below zero
+-- rounded down, even below zero
 abbrev pub floor_div : ℤ → ℕ → ℤ
 floor_div z d = int_div_euclid z (pos d)
 

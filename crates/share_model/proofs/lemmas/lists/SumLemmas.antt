@@ -100,7 +100,7 @@ module _ {X : Type 0} where
           absurd (omega (arith, sum_by-cons (λ x. cond (p x) 1 0) x xs))
       by false e rest = (e, rest (omega (arith, sum_by-cons (λ x. cond (p x) 1 0) x xs)))
 
--- Parts of a list that are named by c, where R c says what is in the part.
+-- Parts of a list that are named by c: R c says what is in the part.
 module _ {C T : Type 0} (R : C → T → Bool) (w : T → ℕ) where
   abbrev pub part : List T → C → ℕ
   part ts c = sum_by w (filter (R c) ts)

@@ -1,4 +1,4 @@
-//! Tests of the parts of a link beside their contracts: worked rows, texts, memory, and what is called how often.
+//! Tests of the parts of a link beside their contracts: worked rows, texts, memory, and the numbers of calls.
 
 mod allocator;
 mod assertions;

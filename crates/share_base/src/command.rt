@@ -44,7 +44,7 @@ pub enum Reply {
     Ticket(TicketNo),
     /// The number of the flow that was opened.
     Flow(FlowNo),
-    /// The flow that was closed, how many of its packets were dropped, and its account.
+    /// The flow that was closed, the number of its packets that were dropped, and its account.
     Closed {
         flow: FlowNo,
         dropped: u32,

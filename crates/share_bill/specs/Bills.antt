@@ -83,7 +83,7 @@ frame_bytes s d = length (sent_frame s.live.version d)
 abbrev pub frame_units : List Rate → State → Sent → ℕ
 frame_units rates s d = units_of (rate_of rates d.tariff) (frame_bytes s d)
 
--- the sums of a flow: how many frames it sent, their bytes, their units, and the cost of these
+-- the sums of a flow: the frames that it sent, their bytes, their units, and the cost of these
 abbrev pub sums_of : List Rate → State → ℕ → Sums
 sums_of rates s flow = record {
   packets = length (sent_by flow s.done);

@@ -13,7 +13,7 @@ abbrev pub first_line : TextKind → List ℕ
 first_line Whole = codes "audit 2\n"
 first_line Lengths = codes "lengths 2\n"
 
--- in a text of lengths the line of a packet names how many bytes its payload has
+-- in a text of lengths the line of a packet names the length of its payload in bytes
 abbrev pub lengths_line : Event → List ℕ
 lengths_line (Commanded c) = written_line (event_line (Commanded c))
 lengths_line (Arrived flow body) = length_line flow (length body.payload)
@@ -32,7 +32,7 @@ longest_line Lengths = 64
 
 -- ---- The text that waits to be drained
 
--- the bytes that wait, and how many may wait at most
+-- the bytes that wait, and the most that may wait
 pub record TextView : Type 0 where
   pub bytes : List ℕ
   pub space : ℕ

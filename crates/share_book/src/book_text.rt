@@ -32,7 +32,7 @@ impl TextKind {
 }
 
 /// Bytes that wait to be drained, in memory that is taken when it is made and by `reserve`. A contract sees the bytes,
-/// and how many may wait.
+/// and the number that may wait.
 #[derive(Drop)]
 pub struct BookText {
     bytes: Vec<u8>,

@@ -44,7 +44,7 @@ pub struct Listening {
     ingress: TcpStream,
 }
 
-/// The connections that are open, the uplink, and how far the end has come.
+/// The connections that are open, the uplink, and the stage of the end.
 #[derive(Drop)]
 pub struct Connections {
     open: Mutex<Vec<Open>>,

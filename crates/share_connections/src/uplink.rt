@@ -28,8 +28,8 @@ const TOOK_NOTHING: i32 = -1;
 /// Stands for a call that waited until the connection was ended for it, which has none either.
 const TIMED_OUT: i32 = -2;
 
-/// The connection, and two counts. One is how many times a write call on it began or ended, which is odd during a call.
-/// The other is how many calls began since the last push.
+/// The connection, and two counts. One is the number of times that a write call on it began or ended, which is odd
+/// during a call. The other is the number of calls that began since the last push.
 #[derive(Drop)]
 pub struct Wire {
     stream: TcpStream,

@@ -38,7 +38,7 @@ pub struct ControlConnection {
     token: usize,
     // The line at the front, which was not passed.
     front: Front,
-    // When the last line came to the front.
+    // The time at which the last line came to the front.
     last_line: Instant,
     is_readable: bool,
     is_writable: bool,

@@ -213,8 +213,8 @@ impl<W, S: Rates> Engine<W, S> {
         self.link.totals()
     }
 
-    /// The n-th open flow, from 0, in order of opening. It has its number, its name, and how many packets wait in its
-    /// buffer, a torn one not counted. `None` if fewer flows are open.
+    /// The n-th open flow, from 0, in order of opening. It has its number, its name, and the number of packets that
+    /// wait in its buffer, a torn one not counted. `None` if fewer flows are open.
     pub fn row(&self, n: u32) -> Option<Row>
         ensures { result ≡ row self.now.live n }
     {

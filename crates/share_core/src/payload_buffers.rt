@@ -148,7 +148,7 @@ impl PayloadBuffers {
         self.buffers.is_busy_at(place)
     }
 
-    /// Closes the buffer of a flow, and says how many packets it held.
+    /// Closes the buffer of a flow, and returns the number of packets that it held.
     pub(crate) fn close(&mut self, flow: FlowNo) -> u32
         requires { IsSome (buffer_of self.old flow) }
         ensures held { result ≡ count_in self.old flow }

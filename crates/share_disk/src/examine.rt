@@ -78,7 +78,7 @@ pub(crate) fn examine<R: Files<File = File>>(
     Ok(Examined::Text { end, fault })
 }
 
-// When a file changed last.
+// The time of the last change of a file.
 fn time_of_change(file: &File) -> io::Result<Time> {
     match time_of(file.metadata()?.modified()?) {
         Some(time) => Ok(time),
@@ -86,7 +86,7 @@ fn time_of_change(file: &File) -> io::Result<Time> {
     }
 }
 
-// Cuts off what follows the last line feed of a text, and answers how many bytes are left. The time of the last change
+// Cuts off what follows the last line feed of a text, and returns the number of bytes left. The time of the last change
 // stays.
 fn cut_text(file: &mut File) -> io::Result<u64> {
     let found = file.metadata()?;

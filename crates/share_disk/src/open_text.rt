@@ -49,7 +49,7 @@ impl OpenText {
         self.number
     }
 
-    /// Writes the first of these bytes at the end of the text, by one call of the system, and answers how many.
+    /// Writes the first of these bytes at the end of the text, by one call of the system, and returns their number.
     pub fn append(&mut self, bytes: &[u8]) -> io::Result<usize>
         ensures few { IfOk result (λ count. count ≤ length bytes.now) }
         ensures written { IfOk result (λ count. (before : List ℕ) → HasText self.old before

@@ -11,7 +11,7 @@ use Rattle.share_doors.specs.Door.{one_more}
 use Rattle.share_doors.specs.declared.sender.Came.{Came}
 use Rattle.share_doors.specs.declared.sender.Came.TheVariants.{Packet, Dropped, Nothing, More, Over}
 
--- the bytes of the packet that was read last, and how many packets were read
+-- the bytes of the packet that was read last, and the number of packets read
 pub record ReaderView : Type 0 where
   pub packet : List ℕ
   pub count : ℕ

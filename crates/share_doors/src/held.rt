@@ -1,4 +1,4 @@
-//! The records of a connection, and how many of its bytes are held.
+//! The records of a connection, and the number of its bytes that are held.
 ghost use Rattle.std.specs.Prelude.{◌≡◌, ◌≢◌, ◌-◌, ◌++◌, [], length, min, take, true, false, IfOk, IfErr, None};
 ghost use Rattle.share_base.specs.Refusal.{IsRefused};
 ghost use Rattle.share_gateway.specs.Records.{CutsRecord};

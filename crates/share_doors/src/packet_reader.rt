@@ -11,7 +11,7 @@ use std::marker::Model;
 /// The most bytes read of a packet: one more than it may have, which shows that it has more.
 const ROOM: usize = MAX_PAYLOAD + 1;
 
-/// Reads packets, and counts them. A contract sees the bytes of the last one, and how many were read.
+/// Reads packets, and counts them. A contract sees the bytes of the last one, and the number read.
 #[derive(Drop)]
 pub(crate) struct PacketReader {
     buffer: Vec<u8>,

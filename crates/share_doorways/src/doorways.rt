@@ -18,7 +18,7 @@ use std::time::{Clock, Duration, Instant};
 /// The number of connections accepted at a port in a round.
 const ACCEPTS: u32 = 64;
 
-/// After how many seconds a listener is tried again whose connections cannot be accepted.
+/// The seconds after which a listener is tried again whose connections cannot be accepted.
 const RETRY_SECONDS: u64 = 1;
 
 /// The greatest flow number.
@@ -31,7 +31,7 @@ pub struct Doorways {
     pub(crate) doors: Slab<Door>,
     // The key of the door of each flow, in order of the flow numbers.
     by_flow: Vec<Option<usize>>,
-    // When listeners are tried again whose connections could not be accepted.
+    // The time at which listeners are tried again whose connections could not be accepted.
     retry: Option<Instant>,
 }
 
@@ -163,7 +163,7 @@ impl Doorways {
         }
     }
 
-    /// When listeners are tried again.
+    /// The time at which listeners are tried again.
     pub fn due(&self) -> Option<Instant> {
         self.retry
     }

@@ -263,7 +263,7 @@ impl Buffers {
         self.rings[place.at].is_busy()
     }
 
-    /// Closes the buffer of a flow, drops its packets and says how many they were. It takes no memory.
+    /// Closes the buffer of a flow, drops its packets and returns their number. It takes no memory.
     pub fn close(&mut self, flow: FlowNo) -> u32
         requires { IsSome (buffer_of self.old flow) }
         ensures held { result ≡ count_in self.old flow }

@@ -63,7 +63,7 @@ impl Field {
 /// The beginning of bytes, read as frames of version 1.
 #[derive(Clone, Copy, Debug, PartialEq, Eq)]
 pub enum FrameRead {
-    /// A frame, with the numbers of its packet and how many bytes of payload it has.
+    /// A frame, with the numbers of its packet and the length of its payload in bytes.
     Frame { flow: FlowNo, seq: u32, len: u16 },
     /// The beginning of a frame, and not the whole. No bytes at all are such a beginning.
     More,
@@ -74,7 +74,7 @@ pub enum FrameRead {
 /// The beginning of bytes, read as frames of version 2.
 #[derive(Clone, Copy, Debug, PartialEq, Eq)]
 pub enum FrameRead2 {
-    /// A frame, with the numbers of its packet and of its flow's tariff, and how many bytes of payload it has.
+    /// A frame, with the numbers of its packet and of its flow's tariff, and the length of its payload in bytes.
     Frame {
         flow: FlowNo,
         seq: u64,

@@ -54,7 +54,8 @@ impl Frames {
         Ok(Frames { bytes })
     }
 
-    /// Takes the next piece of the stream, as far as there is room, and returns how many bytes of it were taken.
+    /// Takes the next piece of the stream, as far as there is room, and returns the number of its bytes that were
+    /// taken.
     pub fn feed(&mut self, piece: &[u8]) -> usize
         ensures count { result ≡ min (length piece.now) (65536 - length self.old.bytes) }
         ensures bytes { self.new ≡ record { bytes = self.old.bytes ++ take result piece.now; payload = [] } }

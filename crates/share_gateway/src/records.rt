@@ -65,7 +65,8 @@ impl Records {
         Ok(Records { name, bytes })
     }
 
-    /// Takes the next piece of the stream, as far as there is room, and returns how many bytes of it were taken.
+    /// Takes the next piece of the stream, as far as there is room, and returns the number of its bytes that were
+    /// taken.
     pub fn feed(&mut self, piece: &[u8]) -> usize
         ensures count { result ≡ min (length piece.now) (16384 - length self.old.bytes) }
         ensures bytes { self.new

@@ -10,7 +10,7 @@ pub struct GatewayOrders<'a> {
     pub file: &'a str,
     /// Whether the file is checked, and no gateway runs.
     pub is_check: bool,
-    /// For how many seconds what can be sent is sent, once the end has begun.
+    /// The seconds for which frames that can be sent are sent, once the end has begun.
     pub grace: u64,
     /// Whether the end of standard input ends the gateway.
     pub is_until_eof: bool,

@@ -64,7 +64,7 @@ pub record Drops {G : Type 0} (told : G → GateCall → G → Type 0) (e : EndV
   pub reason : MayDrop why again left
 
 -- items were queued one after the other. The gate was called before each was offered and when it was queued, and
--- between these once for each of its offers that came back. The second number is how often that was in all
+-- between these once for each of its offers that came back. The second number counts these calls in all
 pub data Queueing {G : Type 0} (told : G → GateCall → G → Type 0) (start : EndView) (first : G)
     : ℕ → ℕ → EndView → G → Type 0 where
   none_queued : Queueing told start first 0 0 start first

@@ -15,7 +15,7 @@ use crossbeam_queue::{Pass, RuledArrayQueue};
 use std::alloc::Global;
 use std::sync::Wait;
 
-/// A pass, and how many of its calls the queue refused, at most 2^64 - 1.
+/// A pass, and the number of its calls that the queue refused, at most 2^64 - 1.
 #[derive(Drop)]
 pub(crate) struct Counted<T, V> {
     pass: Pass<T, V>,

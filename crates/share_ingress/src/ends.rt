@@ -39,8 +39,8 @@ pub enum Offered {
 }
 
 /// A worker's end of the queue, the only one that queues this worker's offers. A contract sees the name of the queue,
-/// how many offers it holds at most, and the worker, counted from 1. It sees what the end pushed, and how many of its
-/// offers a full queue refused, counted up to 2^64 - 1.
+/// the most offers that it holds, and the worker, counted from 1. It sees what the end pushed, and the number of its
+/// offers that a full queue refused, counted up to 2^64 - 1.
 #[derive(Drop)]
 pub struct IngressEnd {
     queue: Arc<OfferQueue, Global>,
@@ -73,9 +73,9 @@ impl Model for IngressEnd {
         × (e.count ≤ 2 ^ 40) };
 }
 
-/// The link's side of the queue, the only one that pops. A contract sees the name of the queue, how many offers it
-/// holds at most, and how many workers it has. It sees what was popped, what the queue held just after the last pop,
-/// and the workers whose ends were joined to the intake. It sees how many pops found the queue empty, counted up to
+/// The link's side of the queue, the only one that pops. A contract sees the name of the queue, the most offers that it
+/// holds, and the number of its workers. It sees what was popped, what the queue held just after the last pop, and the
+/// workers whose ends were joined to the intake. It sees the number of pops that found the queue empty, counted up to
 /// 2^64 - 1.
 #[derive(Drop)]
 pub struct Intake {

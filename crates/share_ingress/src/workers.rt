@@ -44,7 +44,7 @@ pub enum Why {
     NotStarted,
 }
 
-/// The rest of a worker's work: its end and its gate, why it stopped, and how many items it queued.
+/// The rest of a worker's work: its end and its gate, why it stopped, and the number of items that it queued.
 #[derive(Drop)]
 pub struct Done<G> {
     pub end: IngressEnd,
@@ -79,7 +79,7 @@ pub fn run_worker<T: Wait, R: TellingReader + Drop, G: Gate>(
     }
 }
 
-// Works until the reader ends or the gate stops it. Gives why, how many items were queued, and the reader.
+// Works until the reader ends or the gate stops it. Returns why, the number of items queued, and the reader.
 fn work<T: Wait, R: TellingReader, G: Gate>(
     rt: &T,
     reader: &mut IngressReader<R>,

@@ -27,7 +27,7 @@ pub fn recorders_are_one_fold<W: TellingWriter, S: Rates>(recorder: &Recorder<W,
         (events_in recorder.now.entries) (replies_of recorder.now.entries) recorder.now.link.live
         (W.told recorder.now.link.writer) }
 {
-    // The answers are not used: their contracts say that the entries are a run, and how long a life is at most.
+    // The answers are not used: their contracts say that the entries are a run, and bound a life.
     let _ = recorder.journal();
     let _ = recorder.engine().events();
 }

@@ -16,7 +16,7 @@ const MAX_CONTROLS: usize = 16;
 /// The number of connections accepted in a round.
 const ACCEPTS: u32 = 64;
 
-/// After how many seconds the listener is tried again if connections cannot be accepted.
+/// The seconds after which the listener is tried again if connections cannot be accepted.
 const RETRY_SECONDS: u64 = 1;
 
 /// The listener of control connections, and those that are open.
@@ -63,7 +63,7 @@ impl Controls {
         self.connections.get_mut(key)
     }
 
-    /// When the listener is tried again.
+    /// The time at which the listener is tried again.
     pub fn due(&self) -> Option<Instant> {
         self.retry
     }

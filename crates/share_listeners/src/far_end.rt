@@ -20,7 +20,7 @@ const ACCEPTS: u32 = 64;
 /// The number of connections closed in a round: those that were open before it, and those that were accepted in it.
 const CLOSES: u32 = 128;
 
-/// After how many seconds the listener is tried again if connections cannot be accepted.
+/// The seconds after which the listener is tried again if connections cannot be accepted.
 const RETRY_SECONDS: u64 = 1;
 
 /// The downlink, on which the frames of another gateway come in.
@@ -108,7 +108,7 @@ impl FarEnd {
         }
     }
 
-    /// When the listener is tried again.
+    /// The time at which the listener is tried again.
     pub fn due(&self) -> Option<Instant> {
         match &self.way {
             Way::Connections(connections) => connections.retry,
@@ -220,8 +220,7 @@ fn receive(
     Ok((Way::Datagrams(Datagrams::new(socket, from)), address))
 }
 
-// Gives the packets of datagrams to their tenants, and prints how many were dropped. Returns true if more may be at
-// hand.
+// Gives the packets of datagrams to their tenants, and prints the number dropped. Returns true if more may be at hand.
 fn take_datagrams<R: Clock + Eprint>(
     rt: &R,
     datagrams: &mut Datagrams,

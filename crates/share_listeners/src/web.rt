@@ -15,7 +15,7 @@ use std::time::{Clock, Duration, Instant};
 /// The most connections at the same time. More wait until one ends.
 const MAX_CLIENTS: usize = 32;
 
-/// After how many seconds the listener is tried again if connections cannot be accepted.
+/// The seconds after which the listener is tried again if connections cannot be accepted.
 const RETRY_SECONDS: u64 = 1;
 
 /// The web listener, and its connections.

@@ -33,7 +33,7 @@ use std::io::{Error, ErrorKind};
 use std::marker::Model;
 use std::{io, mem};
 
-/// A frame that was scheduled: its flow, and how many bytes it has.
+/// A frame that was scheduled: its flow, and its length in bytes.
 #[derive(Clone, Copy, Debug, PartialEq, Eq)]
 pub struct Frame {
     pub flow: FlowNo,

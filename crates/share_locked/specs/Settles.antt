@@ -67,8 +67,8 @@ Unsettles NoMemory l ends clerks =
     (is_unsent l.recorder.link ≡ false) × AreAgreed l clerks × AllThere l.intake.workers ends
     × Each (IsTaken l.intake.popped) ends
 
--- The ends were joined to the intake, so the queue holds nothing and can get nothing more. What each worker queued
--- is, whole and in order, its arrivals in the journal, and the tallies count these.
+-- The ends were joined to the intake, so the queue holds nothing and can get nothing more. The arrivals of each worker
+-- in the journal are what it queued, whole and in order, and the tallies count these.
 pub record IsJoined {W : Type 0} (l : LockedView W) (ends : List EndView) (recorder : RecorderView W) (tallies : List ℕ)
     (arrived commands : ℕ) : Type 0 where
   pub recorder_is : recorder ≡ l.recorder

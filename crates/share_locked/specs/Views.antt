@@ -9,13 +9,13 @@ use Rattle.share_ingress.specs.Ends.{IntakeView}
 use Rattle.share_journal.specs.Records.{RecorderView}
 use Rattle.share_locked.specs.declared.clerk.Receipt.{Receipt}
 
--- the recorder, the intake, and how many clerks were made
+-- the recorder, the intake, and the number of clerks made
 pub record LockedView (W : Type 0) : Type 0 where
   pub recorder : RecorderView W
   pub intake : IntakeView
   pub clerks : ℕ
 
--- its number, its receipts in order, and how many it has room for
+-- its number, its receipts in order, and the number that it has room for
 pub record ClerkView : Type 0 where
   pub number : ℕ
   pub receipts : List Receipt

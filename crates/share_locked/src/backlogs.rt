@@ -12,8 +12,7 @@ const FLOWS: usize = 8;
 /// A worker fills a flow if one of that many of its last offers was for it.
 const WINDOW: u64 = 64;
 
-/// A flow for which a worker made an offer: how full its buffer is, and which of the worker's offers was the last for
-/// it.
+/// A flow for which a worker made an offer: the backlog of its buffer, and the worker's last offer for it.
 #[derive(Clone, Copy, Debug)]
 struct Filled {
     flow: FlowNo,
@@ -39,7 +38,7 @@ struct Standing {
     is_one_empty: bool,
 }
 
-/// A worker: how many of its offers the link took, how many it was allowed to make, and its flows.
+/// A worker: the number of its offers that the link took, the number that it was allowed to make, and its flows.
 #[derive(Clone, Copy, Debug)]
 struct Filler {
     taken: u64,
@@ -242,8 +241,8 @@ impl Backlogs {
         count
     }
 
-    // By how many offers a worker may be ahead, by what its flows take. Each worker that fills a flow may fill an equal
-    // part of its room.
+    // The number of offers that a worker may be ahead, by what its flows take. Each worker that fills a flow may fill
+    // an equal part of its room.
     fn ahead(&self, filler: &Filler) -> u64 {
         let mut ahead = None;
         for filled in filler.flows.iter().flatten() {

@@ -17,7 +17,7 @@ pub struct Receipt {
 }
 
 /// A clerk makes commands on a running link, and keeps a receipt of each. A contract sees its number, its receipts, in
-/// order, and how many it has room for.
+/// order, and the number that it has room for.
 #[derive(Drop)]
 pub struct Clerk<L: LinkBrand> {
     number: u64,

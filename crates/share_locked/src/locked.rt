@@ -27,7 +27,7 @@ use std::sync::Wait;
 /// The most clerks that a link has.
 const MAX_CLERKS: u64 = 8;
 
-/// The state behind the lock of a running link: a recorder, the intake of its queue, and how many clerks were made. Its
+/// The state behind the lock of a running link: a recorder, the intake of its queue, and the number of clerks made. Its
 /// frames are of version 2, which carry every payload of an offer. At every moment the events of the entries are the
 /// run of the link, as `recorder` says. The arrivals among them are what the intake took, in order.
 #[derive(Drop)]

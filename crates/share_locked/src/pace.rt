@@ -1,4 +1,4 @@
-//! The signals by which the threads of a running link wake each other, and how far its workers may go ahead of it.
+//! The signals by which the threads of a running link wake each other, and the bound of its workers' lead.
 ghost use Rattle.std.specs.Prelude.{◌≡◌, IfErr};
 ghost use Rattle.share_base.specs.declared.refusal.Refusal.TheVariants.{NoMemory};
 
@@ -51,7 +51,7 @@ impl Sleeper {
     }
 }
 
-/// A worker: how many offers it may have made, and whether it waits for its connection.
+/// A worker: the number of offers that it may have made, and whether it waits for its connection.
 #[derive(Drop)]
 struct WorkerPace {
     allowed: AtomicU64,

@@ -8,13 +8,13 @@ use share_model::{Backlog, Rates, TellingWriter};
 use std::sync::Wait;
 use std::thread;
 
-/// After how many rounds in a row with nothing to do the link lies down.
+/// The rounds in a row with nothing to do after which the link lies down.
 const IDLE_ROUNDS: u32 = 4;
 
-/// After how many looks for packets that are at hand soon the link lies down.
+/// The looks for packets that are at hand soon after which the link lies down.
 const LOOKS: u32 = 100;
 
-/// After how many writes the link looks for flows that do not compete.
+/// The writes after which the link looks for flows that do not compete.
 const WRITES: u32 = 64;
 
 /// Follows a link's service.
@@ -66,7 +66,7 @@ impl<'a, A: Attendant> Paced<'a, A> {
         }
     }
 
-    // Looks how full the buffer of a flow is, after a write of its frame.
+    // Looks at the backlog of a flow's buffer, after a write of its frame.
     fn look<W: TellingWriter, S: Rates, L: LinkBrand, R: Wait>(
         &mut self,
         rt: &R,

@@ -15,7 +15,7 @@ pub type Port<W, S, L> = Mutex<Locked<W, S, L>>;
 /// The most bytes that a turn offers.
 const MOST: u32 = 65535;
 
-/// After how many rounds in a row with nothing to do a link that nobody wakes begins to rest.
+/// The rounds in a row with nothing to do after which a link that nobody wakes begins to rest.
 const EAGER: u32 = 16;
 
 /// The number of milliseconds that it then rests after each round with nothing to do.

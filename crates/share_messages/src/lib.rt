@@ -1,4 +1,4 @@
-//! The lines that a gateway prints on standard error: what they are about, their text, and how many are printed.
+//! The lines that a gateway prints on standard error: what they are about, their text, and the number printed.
 #![tactic(auto)]
 
 mod kind;

@@ -29,7 +29,7 @@ impl fmt::Display for Line<'_> {
     }
 }
 
-/// The reason of the line that says how many lines of its kind were left out.
+/// The reason of the line that gives the number of lines of its kind that were left out.
 #[derive(Clone, Copy, Debug)]
 pub struct LinesLeftOut(pub u64);
 

@@ -1,4 +1,4 @@
-//! Messages: which lines are printed, and how many are left out.
+//! Messages: the lines that are printed, and the number left out.
 ghost use Rattle.std.specs.Prelude.{◌≡◌, ◌+◌, ◌%◌, ◌^◌, ℕ};
 ghost use Rattle.share_messages.specs.Limits.{after_line, after_report, decision_of, is_silent as is_silent_kind};
 ghost use Rattle.share_messages.specs.Limits.{limiter_of, new_messages};
@@ -108,7 +108,7 @@ impl Messages {
         take_count(&mut self.limiters[kind.index()], second)
     }
 
-    /// Prints a line, unless it is left out. If lines of its kind were left out before, a line that says how many is
+    /// Prints a line, unless it is left out. If lines of its kind were left out before, a line with their number is
     /// printed first. A line that cannot be printed is dropped.
     pub fn say<R: Eprint + Clock, D: Display + Drop>(
         &mut self,
@@ -132,7 +132,7 @@ impl Messages {
         }
     }
 
-    /// Prints how many lines of each kind were left out, if any were. It is called at the end.
+    /// Prints the number of lines of each kind that were left out, if any were. It is called at the end.
     pub fn flush<R: Eprint + Clock>(&mut self, rt: &R)
         ensures quiet { self.new.is_quiet ≡ self.old.is_quiet }
         ensures reported { (kind : Kind) → (limiter_of kind self.new).left_out ≡ 0 }

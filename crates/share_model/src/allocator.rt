@@ -12,7 +12,7 @@ pub const REFUSE_EACH: u16 = 4095;
 /// Refuse no request from here on. The answer is yes if one was refused since refusals were asked for.
 pub const WAS_REFUSED: u16 = 4096;
 
-/// Remember how many blocks are held. The answer is no.
+/// Remember the number of blocks held. The answer is no.
 pub const MARK_HELD: u16 = 4097;
 
 /// The answer is yes if more or fewer blocks are held than were remembered.

@@ -11,7 +11,7 @@ pub struct Book {
     pub held: bool,
 }
 
-/// A frame in part: the flow whose head packet it carries, and how many of its bytes are out.
+/// A frame in part: the flow whose head packet it carries, and the number of its bytes that are out.
 #[derive(Clone, Copy, Debug)]
 pub struct Part {
     pub flow: FlowNo,
@@ -72,7 +72,7 @@ pub struct Totals {
     pub link: LinkState,
 }
 
-/// An open flow, and how many packets wait in its buffer, a torn one not counted.
+/// An open flow, and the number of packets that wait in its buffer, a torn one not counted.
 #[derive(Clone, Copy, Debug)]
 pub struct Row {
     pub flow: FlowNo,

@@ -7,7 +7,7 @@ pub struct Client {
     pub tickets: u32,
     /// 2^40 divided by its tickets; 0 before it first competes.
     pub stride: u64,
-    /// By how much its pass was ahead of the global pass when it ceased to compete, and what it was charged since.
+    /// The distance by which its pass was ahead of the global pass when it ceased to compete, and its charges since.
     pub remain: i128,
     /// Its charges, on the scale of the global pass, while it competes.
     pub pass: i128,

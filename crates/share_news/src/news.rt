@@ -92,7 +92,7 @@ impl News {
         );
     }
 
-    /// Prints how many datagrams of the downlink were dropped since the start.
+    /// Prints the number of datagrams of the downlink dropped since the start.
     pub fn tell_dropped_datagrams<R: Clock + Eprint>(&mut self, rt: &R, dropped: u64) {
         self.messages.say(
             rt,

@@ -39,10 +39,10 @@ pub(crate) enum Rest {
     Paced,
 }
 
-/// The end of a gateway.
+/// The options of a gateway: its end and its messages.
 #[derive(Clone, Copy, Debug)]
 pub struct Options {
-    /// For how many seconds what can be sent is sent once the end has begun.
+    /// The seconds for which frames that can be sent are sent once the end has begun.
     pub grace: u64,
     /// Whether the end of standard input begins the end.
     pub until_eof: bool,

@@ -14,7 +14,7 @@ pub(crate) fn time_now(clock: &impl Clock) -> io::Result<Time> {
     }
 }
 
-/// When a period is over that begins at a moment.
+/// The end of a period that begins at a moment.
 pub(crate) fn end_of_period(period: Option<Duration>, now: Instant) -> Option<Instant> {
     now.checked_add(period?)
 }

@@ -4,7 +4,7 @@ use crate::moments::is_past;
 use share_catalog::Closing;
 use std::time::{Duration, Instant};
 
-/// After how many seconds a close is tried again for which there was no memory.
+/// The seconds after which a close is tried again for which there was no memory.
 const RETRY_SECONDS: u64 = 1;
 
 /// Why the open book is being closed, if it is.
@@ -54,7 +54,7 @@ impl Succession {
         self.retry = now.checked_add(Duration::from_secs(RETRY_SECONDS));
     }
 
-    /// When a close that failed is tried again.
+    /// The time at which a close that failed is tried again.
     pub(crate) fn retry(&self) -> Option<Instant> {
         self.retry
     }

@@ -9,11 +9,11 @@ use std::time::{Duration, Instant};
 /// The number of pages of text given to the disk in a round.
 const PAGES: u32 = 16;
 
-/// After how many seconds written text is made durable.
+/// The seconds after which written text is made durable.
 const SYNC_SECONDS: u64 = 1;
 
 impl Books {
-    /// Gives text to the disk, as long as there are pages for it, and learns how much of it is written.
+    /// Gives text to the disk, as long as there are pages for it, and learns the part of it that is written.
     pub fn write_text<R: Wait>(&mut self, rt: &R, now: Instant) {
         for _ in 0..PAGES {
             if !self.life.has_text() || !self.give_page(rt) {

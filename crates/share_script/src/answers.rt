@@ -24,8 +24,8 @@ use share_text::{MAX_ANSWER, push_line, read_line, read_packet, read_turn};
 use std::alloc::Global;
 use std::marker::Model;
 
-/// A script in progress: its link, and whether none of its lines was answered yet. A contract sees it so. What its
-/// lines need memory for is taken from its allocator.
+/// A script in progress: its link, and whether none of its lines was answered yet. A contract sees it so. Its lines
+/// take their memory from its allocator.
 #[derive(Drop)]
 pub struct Session<W, S: Rates> {
     alloc: Global,

@@ -92,8 +92,8 @@ impl<'a, R: Wait> Gate for AtPace<'a, R> {
     }
 }
 
-/// Queues the records of the connection with this number until the connection or the link ends. Gives the end of the
-/// queue, why the worker stopped, and how many records it queued.
+/// Queues the records of the connection with this number until the connection or the link ends. Returns the end of the
+/// queue, why the worker stopped, and the number of records that it queued.
 pub fn work<R: Wait, L: LinkBrand>(
     rt: &R,
     alloc: Global,

@@ -32,8 +32,8 @@ impl DatagramSocket {
         Ok(DatagramSocket { socket })
     }
 
-    /// Sets how many bytes the socket may hold that were sent and have not left. Linux doubles it, and cuts it to its
-    /// own limit first.
+    /// Sets the number of bytes that the socket may hold after they were sent, until they leave. Linux doubles it, and
+    /// cuts it to its own limit first.
     pub fn set_send_buffer(&self, bytes: u64) -> io::Result<()> {
         system::set_send_buffer(self.socket.as_raw_fd(), bytes)
     }

@@ -88,7 +88,7 @@ pub struct Status<'a> {
     pub events: u64,
     /// The number of events left of its life.
     pub left: u64,
-    /// When the open book was opened.
+    /// The time at which the open book was opened.
     pub opened: Time,
     pub uplink: Option<UplinkStatus>,
     /// Bytes of frames a second, if they are limited.

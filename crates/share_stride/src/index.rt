@@ -79,7 +79,7 @@ impl Index {
 }
 
 // The place of a flow's pair, or the one that it would have. If no flow between the first one and it was removed, its
-// place is how far its number is past the first. So that place is tried before the search.
+// place is the distance of its number past the first. So that place is tried before the search.
 fn place_of(pairs: &[(FlowNo, usize)], flow: FlowNo) -> Result<usize, usize>
     requires { IsRising pairs.now }
     ensures found { IfOk result (IsAt pairs.now flow) }

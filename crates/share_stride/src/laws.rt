@@ -10,8 +10,8 @@ pub fn moves_commute()
     ensures { MovesCommute }
 {}
 
-/// After a levelling of distinct flows a client competes if and only if its flow has tickets, and then with these. What
-/// is level takes no move.
+/// After a levelling of distinct flows a client competes if and only if its flow has tickets, and then with these. A
+/// level client takes no move.
 pub fn levelling_levels()
     ensures level { LevelledIsLevel }
     ensures stays { LevelStays }

@@ -22,9 +22,9 @@ use std::marker::Model;
 ///
 /// A client that has competed has 1 to 2^20 tickets, and a stride of 2^40 divided by them, rounded down. A new one has
 /// no tickets, and the stride 0. A charge of `u` units adds `stride * u / 1024`, rounded down, to a client's pass while
-/// it competes. While it does not, it adds that to its remain. The remain is by how much the pass was ahead of the
-/// global pass when the client left. The global pass is that of a client with all tickets of those that compete. The
-/// clock counts the units that all clients were charged.
+/// it competes. While it does not, it adds that to its remain. The remain is the distance that the pass was ahead of
+/// the global pass when the client left. The global pass is that of a client with all tickets of those that compete.
+/// The clock counts the units that all clients were charged.
 pub struct Queue {
     clients: Table,
     global: GlobalPart,
@@ -113,8 +113,8 @@ impl Queue {
         }
     }
 
-    /// Makes a client that competes leave. It keeps its tickets and its stride. Its remain is by how much its pass is
-    /// ahead of the global pass, below zero if it is behind. It never fails.
+    /// Makes a client that competes leave. It keeps its tickets and its stride. Its remain is the distance that its
+    /// pass is ahead of the global pass, below zero if it is behind. It never fails.
     pub fn leave(&mut self, flow: FlowNo)
         requires there { IsSome (map.get self.old.clients flow) }
         requires competes { IsTrue (model_client self.old flow).competes }

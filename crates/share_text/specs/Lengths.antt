@@ -1,4 +1,4 @@
--- The line of a packet in a text of lengths, which names how many bytes a payload has, and none of them.
+-- The line of a packet in a text of lengths, which names the length of a payload in bytes, and none of them.
 use Rattle.std.specs.Prelude.{ℕ, List, [], ◌∷◌, ◌++◌, Option, None, Some, codes, decimal}
 use Rattle.std.specs.List.{join_with_byte}
 use Rattle.share_model.specs.text.Lines.{field, name_of, number_of}

@@ -28,8 +28,8 @@ fn digit(byte: u8) -> u8
     }
 }
 
-// Writes the bytes that a word spells in hexadecimal to the front of a buffer, and answers how many they are.
-// `None` if the word spells none.
+// Writes the bytes that a word spells in hexadecimal to the front of a buffer, and returns their number. `None` if the
+// word spells none.
 fn decode(word: &[u8], bytes: &mut [u8]) -> Option<usize>
     requires { length word.now ≤ 2 * length bytes.old }
     ensures payload { MatchOption result (payload_of word.now ≡ None)

@@ -27,7 +27,7 @@ pub fn spelled_send(flow: &Name) -> ShortText<MAX_SHORT_LINE>
     text
 }
 
-/// The line of a packet that names how many bytes its payload has, and none of them.
+/// The line of a packet that names the length of its payload in bytes, and none of them.
 pub fn spelled_length(flow: &Name, count: u64) -> ShortText<MAX_SHORT_LINE>
     ensures bytes { result ≡ length_line flow.now count }
     ensures few { length result ≤ MAX_SHORT_LINE }

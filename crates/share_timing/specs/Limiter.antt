@@ -3,7 +3,7 @@ use Rattle.std.specs.Prelude.{◌+◌, ◌-◌, ◌^◌, ◌==◌, ℕ, min, nat
 use Rattle.share_timing.specs.declared.limiter.Printing.{Printing}
 use Rattle.share_timing.specs.declared.limiter.Printing.TheVariants.{Print, LeaveOut}
 
--- the second; how many messages of it were printed; and how many were left out
+-- the second, the number of its messages that were printed, and the number left out
 pub record LimiterView : Type 0 where
   pub second : ℕ
   pub printed : ℕ

@@ -7,7 +7,7 @@ use std::marker::Model;
 /// The number of bytes that may be sent beyond the allowance: those of the longest frame.
 pub const DEBT: u128 = 9017;
 
-/// For how many nanoseconds an allowance is saved up.
+/// The nanoseconds for which an allowance is saved up.
 pub const SAVED: u128 = 20_000_000;
 
 /// Billionths of a byte in a byte.
@@ -78,8 +78,8 @@ fn most(rate: u64) -> u128
     DEBT * BILLION + u128::from(rate) * SAVED
 }
 
-/// Laws of each allowance from the beginning on. The bytes that were sent are at most those of the time that passed,
-/// the 20 milliseconds that are saved up, and one frame of the longest kind.
+/// Laws of each allowance from the beginning on. The bytes that were sent are at most those of the time that passed and
+/// of the 20 milliseconds that are saved up. One frame of the longest kind is added.
 pub fn rates_are_kept()
     ensures { (rate bytes nanoseconds : ℕ) (a : AllowanceView) → Keeps rate bytes nanoseconds a
         → bytes * 1000000000 ≤ rate * (nanoseconds + 20000000) + 9017 * 1000000000 }

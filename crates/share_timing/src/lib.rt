@@ -1,6 +1,5 @@
-//! The parts of a gateway that know of time: a rate that is kept, the pauses between dials, and how often a message
-//! is printed.
-//! The caller reads the clock.
+//! The parts of a gateway that know of time: a rate that is kept, the pauses between dials, and the limit of messages
+//! printed. The caller reads the clock.
 #![tactic(auto)]
 
 mod allowance;

@@ -47,7 +47,7 @@ impl Limiter {
         }
     }
 
-    /// Begins a second, if it is another one. Returns how many messages were left out before it.
+    /// Begins a second, if it is another one. Returns the number of messages left out before it.
     pub fn begin(&mut self, second: u64) -> u64
         ensures left_out { result ≡ (after_second second self.old).0 }
         ensures after { self.new ≡ (after_second second self.old).1 }

@@ -7,7 +7,7 @@ use std::marker::Model;
 /// The first pause, in milliseconds.
 const FIRST: u64 = 100;
 
-/// The longest pause, in milliseconds, and how long a connection stands before the first pause comes again.
+/// The longest pause, in milliseconds, and the time that a connection stands before the first pause comes again.
 const LONGEST: u64 = 5000;
 
 /// The pause before an uplink is dialled again. It is 0.1 seconds, then twice as long each time, up to 5 seconds. It is
@@ -35,7 +35,7 @@ impl Redial {
         Redial { pause: FIRST }
     }
 
-    /// A dial failed or a connection was lost. Returns after how many milliseconds it is dialled again.
+    /// A dial failed or a connection was lost. Returns the milliseconds after which it is dialled again.
     pub fn pause(&mut self) -> u64
         ensures pause { result ≡ self.old }
         ensures next { self.new ≡ next_pause self.old }

@@ -10,7 +10,7 @@ use Rattle.share_gateway.specs.Outbox.{ready_of, send_more, begun_again}
 use Rattle.share_gateway.specs.OutboxHistory.{AreParts}
 use Rattle.share_transit.specs.Transit.{TransitView, TurnsInto, Hands, empty_transit, text_written}
 
--- a turn: its frame, and how many bytes the text of all books had when its line was in it
+-- a turn: its frame, and the length in bytes of the text of all books when its line was in it
 pub record TextTurn : Type 0 where
   pub frame : List ℕ
   pub ends : ℕ

@@ -24,8 +24,8 @@ pub struct Due {
     count: u32,
 }
 
-/// The frames on their way to the wire, and how far the text of their turns is on its way to the disk. It outlives
-/// books: text is counted over all of them. A book is closed only after all its text was handed to the disk.
+/// The frames on their way to the wire, and the progress of the text of their turns to the disk. It outlives books:
+/// text is counted over all of them. A book is closed only after all its text was handed to the disk.
 pub struct Transit {
     outbox: Outbox,
     // The frames that are not allowed on the wire.
@@ -109,8 +109,9 @@ impl Transit {
         book.drained(count);
     }
 
-    /// Says how many bytes of all that were handed to the disk it has written. A count below an earlier one, or above
-    /// what was handed, means that one. The frames of the turns whose text is written are allowed on the wire.
+    /// Notes the number of bytes that the disk has written, of all that were handed to it. A count below an earlier
+    /// one, or above what was handed, means that one. The frames of the turns whose text is written are allowed on the
+    /// wire.
     pub fn written(&mut self, total: u64)
         ensures { self.new ≡ text_written total self.old }
     {
@@ -168,7 +169,7 @@ impl Transit {
         self.outbox.waiting()
     }
 
-    // Puts the first bytes of a text on a page, as many as have room, and returns how many.
+    // Puts the first bytes of a text on a page, as many as have room, and returns their number.
     fn give(&mut self, text: &[u8], page: &mut Page) -> usize
         ensures count { result ≡ handed_count self.old page.old text.now }
         ensures transit { self.new ≡ record self.old { handed = self.old.handed + result } }

@@ -22,7 +22,7 @@ use std::marker::Model;
 use std::net::{Net, SocketAddr};
 use std::time::{Duration, Instant};
 
-/// After how many seconds a dial is given up.
+/// The seconds after which a dial is given up.
 const DIAL_SECONDS: u64 = 5;
 
 /// The action of an uplink that is due.
@@ -181,7 +181,7 @@ impl Uplink {
         self.fault
     }
 
-    /// After what time `tick` has something to do, if there is such a time.
+    /// The time after which `tick` has something to do, if there is such a time.
     pub fn pause(&self, now: Instant) -> Option<Duration>
         ensures up { self.now.state ≡ Up → result ≡ None }
         ensures dialling { self.now.state ≡ Dialling → IsSome result }

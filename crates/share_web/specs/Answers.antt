@@ -11,7 +11,7 @@ use Rattle.share_web.specs.declared.target.Resource.TheVariants as resource
 abbrev pub body_if : List ℕ → Bool → List ℕ
 body_if body has_body = if has_body then body else []
 
--- an answer says how long its body is, whether the body follows or not
+-- an answer has the length of its body, whether the body follows or not
 unfoldable pub response : List ℕ → List ℕ → List ℕ → Bool → List ℕ
 response reason fields body has_body =
     three (codes "HTTP/1.1 ") reason (codes "\r\n")

@@ -36,8 +36,8 @@ pub enum Stage {
     Over,
 }
 
-/// A connection, which asks for one thing. A contract sees how far it has come, its head, what is left of its answer,
-/// and what its socket may be ready for.
+/// A connection, which asks for one thing. A contract sees its stage, its head, what is left of its answer, and what
+/// its socket may be ready for.
 pub struct WebClient {
     stream: Stream,
     head: Head,

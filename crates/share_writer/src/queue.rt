@@ -20,7 +20,7 @@ pub(crate) const MOST_CLOSES: u64 = 4;
 
 /// The queue from the loop to the two threads that write books. None of its calls waits for the disk.
 ///
-/// A contract sees how many bytes and books were given to the disk. It does not see what the disk has done.
+/// A contract sees the numbers of bytes and books given to the disk. It does not see what the disk has done.
 pub struct DiskQueue {
     shared: Arc<Shared>,
     writer: Sender<WriterJob>,

@@ -7,7 +7,7 @@ use std::sync::atomic::{AtomicBool, AtomicU64, Ordering};
 use std::thread::Parker;
 use std::time::Duration;
 
-/// After how many seconds a call that failed is made again.
+/// The seconds after which a call that failed is made again.
 const RETRY_SECONDS: u64 = 1;
 
 /// The calls of the system that a thread beside the loop shows.

@@ -143,7 +143,8 @@ fn write_whole<R: Wait>(rt: &R, attempts: Attempts<'_>, text: &mut OpenText, byt
     unreachable!()
 }
 
-// Writes the first of these bytes at the end of a text, and answers how many. `None` if the disk was abandoned before.
+// Writes the first of these bytes at the end of a text, and returns their number. `None` if the disk was abandoned
+// before.
 fn write_some<R: Wait>(
     rt: &R,
     attempts: Attempts<'_>,

@@ -7,7 +7,7 @@ use share_model::{Got, PlainReader, ScriptedReader, TellingReader};
 use std::alloc::Global;
 use std::process::Abort;
 
-/// A name, and how many packets, bytes and units it has, and what they cost.
+/// A name, its packets, bytes and units, and their cost.
 type WantedRow = (&'static str, u64, u64, u64, u64);
 
 /// A text that has a bill.

@@ -15,7 +15,7 @@ const MANY: &str =
     "lengths 2\nopen a 8 1\nmktkt 1 base\nfund 1 flow a\nsend a 9000\nsend a 1\nsend a 16\nsend a 17\n\
     send a 1491\nsend a 9000\nsend a 9000\nturn 9017\n";
 
-// At which request the bill of a text is made: one more than it makes. `None` if it has no bill.
+// The number of the request at which the bill of a text is made: one more than it makes. `None` if it has no bill.
 fn first_granted(alloc: Global, text: &str) -> Option<u16> {
     for request in 1..200u16 {
         let _no = asks!(alloc, request);

@@ -57,7 +57,7 @@ const NUMBERS: [(&[u64], Option<u64>); 5] = [
     (&[18446744073709551615, 1], None),
 ];
 
-/// Texts, and how many bytes their whole lines have.
+/// Texts, and the lengths of their whole lines in bytes.
 const LINES: [(&str, usize); 5] = [("", 0), ("a", 0), ("a\n", 2), ("a\nbc", 2), ("a\n\n", 3)];
 
 #[test]

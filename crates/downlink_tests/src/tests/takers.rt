@@ -10,7 +10,7 @@ use std::process::Abort;
 /// The greatest flow number that a tenant has.
 pub(super) const TENANTS: u32 = 2;
 
-/// The packets that were given: their flows, the first bytes of their payloads, and how many bytes these have.
+/// The packets that were given: their flows, the first bytes of their payloads, and the lengths of these in bytes.
 #[derive(Drop)]
 pub(super) struct Taker {
     pub(super) packets: Vec<(u32, u8, usize)>,

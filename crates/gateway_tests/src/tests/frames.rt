@@ -13,8 +13,8 @@ enum Ends {
     Bad(Field),
 }
 
-/// Streams, how many frames each has, how many bytes the payloads have together, and how it ends. The frame is that of
-/// the payload `hi`, the first packet of flow 1, under tariff 1.
+/// Streams, the frames of each, the bytes of the payloads together, and its end. The frame is that of the payload `hi`,
+/// the first packet of flow 1, under tariff 1.
 const STREAMS: [(&[u8], usize, usize, Ends); 15] = [
     (b"", 0, 0, Ends::More),
     (

@@ -23,7 +23,7 @@ enum Step {
     Again,
 }
 
-/// Steps, and after each the bytes that are ready and how many have room.
+/// Steps, and after each the bytes that are ready and the number that have room.
 const STEPS: [(Step, &[u8], usize); 12] = [
     (Step::Put(FIRST), b"", 65518),
     (Step::Again, b"", 65518),

@@ -13,7 +13,7 @@ enum Ends {
     Bad,
 }
 
-/// Streams for the tenant `a`, how many items each has, how many bytes the payloads have together, and how it ends.
+/// Streams for the tenant `a`, the items of each, the bytes of the payloads together, and its end.
 const STREAMS: [(&[u8], usize, usize, Ends); 19] = [
     (b"", 0, 0, Ends::More),
     (b"\x01a\0\x01a", 1, 1, Ends::More),

@@ -24,7 +24,7 @@ const REQUESTS: u16 = 64;
 /// A record for the flow a, whose payload is kept on the heap.
 const LONG: &[u8] = b"\x01a\x00\x14abcdefghijklmnopqrst";
 
-// Remembers how many blocks are held.
+// Remembers the number of blocks held.
 fn mark(alloc: Global) {
     let _no = asks!(alloc, MARK_HELD);
 }

@@ -9,7 +9,7 @@ use std::alloc::{AllocError, Global};
 use std::process::Abort;
 use std::test::Fail;
 
-/// Streams, how many items are read from each, and how it ends.
+/// Streams, the number of items read from each, and its end.
 const STREAMS: [(&str, &[u8], usize, Ended); 11] = [
     ("empty", b"", 0, End),
     ("payload cut", b"\x01a\x00\x01a\x01a\x00\x02b", 1, Cut),
@@ -30,7 +30,7 @@ const TWO: &[u8] = b"\x01a\x00\x01b\x01a\x00\x02cd";
 /// The number of whole ones in front of each byte, and in front of the end.
 const WHOLE: [usize; 12] = [0, 0, 0, 0, 0, 1, 1, 1, 1, 1, 1, 2];
 
-// Checks how many items a reader of these bytes gives and how it ends, and that it ends so again.
+// Checks the number of items that a reader of these bytes gives, its end, and that it ends so again.
 fn ends<R: TellingReader + Drop>(
     rt: &impl Abort,
     alloc: Global,

@@ -36,7 +36,7 @@ pub(super) fn takes_none<R: Debug + Copy>(rt: &impl Abort, row: R, alloc: Global
     same(rt, (row, "is steered"), was_refused(alloc), is_refused);
 }
 
-/// Remembers how many blocks are held.
+/// Remembers the number of blocks held.
 pub(super) fn mark(alloc: Global) {
     let _no = asks!(alloc, MARK_HELD);
 }

@@ -12,7 +12,7 @@ use share_model::Answer;
 use std::alloc::Global;
 use std::process::Abort;
 
-/// A frame: its flow, its number, and how many bytes its payload has.
+/// A frame: its flow, its number, and the length of its payload in bytes.
 type Frame = (u32, u32, u32);
 
 /// The questions before the first turn and after a fault, the frames in their order, and their bytes in each version.
@@ -311,7 +311,7 @@ fn audits_of_frames_of_version_2_that_are_cut_are_run_again(rt: HostRuntime) {
     frames_are_cut(&rt, rt.alloc(), Version::Two, run);
 }
 
-/// The pieces of frames, each with its flow, its number, how many bytes it has, and whether it is the last.
+/// The pieces of frames, each with its flow, its number, its length in bytes, and whether it is the last.
 type Pieces = Vec<(Frame, bool)>;
 
 // Cuts each frame into pieces of these lengths, again and again, each cut to the rest of its frame.

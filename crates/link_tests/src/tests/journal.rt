@@ -16,7 +16,7 @@ use std::alloc::Global;
 use std::process::Abort;
 
 /// The version, the life, what the writer answers, and the rows. Then come the bytes that the writer holds, the counts
-/// of the calls that it accepted, how many entries there are, and their audit.
+/// of the calls that it accepted, the number of entries, and their audit.
 #[derive(Clone, Copy)]
 struct Run {
     version: Version,
@@ -214,7 +214,7 @@ fn is_as_worked(rt: &impl Abort, alloc: Global, recorder: &Recording, run: &Run)
     replays(rt, alloc, recorder, run.life.saturating_add(1));
 }
 
-/// The lives and versions of a link and a journal, and how many events each holds.
+/// The lives and versions of a link and a journal, and the number of events that each holds.
 pub(super) fn are_parts<W>(
     rt: &impl Abort,
     engine: &Engine<W, Four>,

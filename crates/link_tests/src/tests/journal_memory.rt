@@ -34,7 +34,7 @@ const FULL: &str = "\
     mkcur c = ok; mkcur d = ok; mkcur e = ok; mkcur f = ok; mkcur g = ok; mkcur h = ok; mkcur i = ok; \
     mktkt 10 base = ticket 1; mktkt 10 base = ticket 2; mktkt 10 base = ticket 3; mktkt 10 base = ticket 4";
 
-/// Commands that take memory: the rows before one, the command, and how many requests it makes. A new flow takes memory
+/// Commands that take memory: the rows before one, the command, and the number of its requests. A new flow takes memory
 /// for its packets, and the first one for the table of the flows. That is for the two parts of its index, the names,
 /// and the flows. The table of the currencies has as many parts: what is beside its names is empty, but is asked for
 /// too. That of the tickets has one. All parts of a full table grow.

@@ -165,9 +165,9 @@ fn gives_its_parts(rt: &impl Abort, alloc: Global, tokens: &Tokens) {
     keeps_none(rt, "parts", alloc);
 }
 
-/// The commands that take memory, and how many requests each makes on a new link. A flow makes one for its ring and
-/// four for the table of flows. A currency makes four for the table of currencies, and a ticket one for that of
-/// tickets.
+/// The commands that take memory, and the number of requests that each makes on a new link. A flow makes one for its
+/// ring and four for the table of flows. A currency makes four for the table of currencies, and a ticket one for that
+/// of tickets.
 const GROWING: [(&str, u16); 3] = [
     ("open a 4 1 = flow 1", 5),
     ("mkcur x = ok", 4),

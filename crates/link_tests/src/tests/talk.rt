@@ -40,7 +40,7 @@ pub(super) trait Talks {
     /// A question to the link.
     fn read(&self, question: &str) -> Option<i128>;
 
-    /// The changes of an event, and how many entries there are.
+    /// The changes of an event, and the number of entries.
     fn shown(&self) -> (Totals, GlobalPart, u64);
 }
 

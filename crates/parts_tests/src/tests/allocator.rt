@@ -22,7 +22,7 @@ pub(super) fn was_refused(alloc: Global) -> bool {
     asks!(alloc, WAS_REFUSED)
 }
 
-/// Remembers how many blocks are held.
+/// Remembers the number of blocks held.
 pub(super) fn mark(alloc: Global) {
     let _no = asks!(alloc, MARK_HELD);
 }

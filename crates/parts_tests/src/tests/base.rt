@@ -259,8 +259,8 @@ fn refusals_have_numbers_names_and_texts(rt: HostRuntime) {
     holds(&rt, "words", are_words());
 }
 
-/// A call that makes a value, its payload, and how many requests that takes. A body takes one if its payload and
-/// the room before it have more than 33 bytes, and it is for no more than these. A parcel has two bodies.
+/// A call that makes a value, its payload, and the number of requests that it takes. A body takes one if its payload
+/// and the room before it have more than 33 bytes, and it is for no more than these. A parcel has two bodies.
 const COPIES: [(Made, &[u8], u16); 11] = [
     (Made::Body, b"", 0),
     (Made::Body, b"0", 0),

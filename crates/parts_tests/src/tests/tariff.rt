@@ -1,5 +1,5 @@
-//! share_tariff: worked units, the ranges of tariffs and shelves, and how often a stored closure is called. A function
-//! may not hand out boxed closures, so each body that needs some makes its own.
+//! share_tariff: worked units, the ranges of tariffs and shelves, and the number of calls of a stored closure. A
+//! function may not hand out boxed closures, so each body that needs some makes its own.
 
 use crate::tests::allocator::{keeps_none, mark, refuse, took_none};
 use crate::tests::assertions::{holds, same};

@@ -41,7 +41,7 @@ pub(super) fn takes_none<R: Debug + Copy>(rt: &impl Abort, row: R, alloc: Global
     let _is_steered = is_steered(rt, alloc);
 }
 
-/// Remembers how many blocks are held.
+/// Remembers the number of blocks held.
 pub(super) fn mark(alloc: Global) {
     let _no = asks!(alloc, MARK_HELD);
 }

@@ -25,8 +25,8 @@ use std::sync::Wait;
 /// A writer that takes no memory.
 type Writer = PlainWriter<Sink>;
 
-/// Commands that take memory, and how many requests each makes. A flow takes memory for its packets and for four parts
-/// of its table. A currency takes it for four of its own, of which one is empty.
+/// Commands that take memory, and the number of requests that each makes. A flow takes memory for its packets and for
+/// four parts of its table. A currency takes it for four of its own, of which one is empty.
 const GROWING: [(&str, u16); 3] = [
     ("C1 open a 4 1 = 1 flow 1", 5),
     ("C1 mkcur x = 1 ok", 4),

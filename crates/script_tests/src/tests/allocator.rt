@@ -44,7 +44,7 @@ pub(super) fn asks_for_few<R: Debug + Copy>(rt: &impl Abort, row: R, alloc: Glob
     holds(rt, (row, "asks for no more"), !is_more);
 }
 
-/// Remembers how many blocks are held.
+/// Remembers the number of blocks held.
 pub(super) fn mark(alloc: Global) {
     let _no = asks!(alloc, MARK_HELD);
 }

@@ -119,8 +119,8 @@ const BLOCKED: Taken = Taken::Error(ErrorKind::WouldBlock);
 
 const INTERRUPTED: Taken = Taken::Error(ErrorKind::Interrupted);
 
-/// Lines, the answers of write calls in turn, what is written, how the connection ends, and how many commands are made.
-/// An offer that a refused call left is offered once more when the connection is dropped, so a call that stays
+/// Lines, the answers of write calls in turn, what is written, the end of the connection, and the number of commands
+/// made. An offer that a refused call left is offered once more when the connection is dropped, so a call that stays
 /// refused is refused twice.
 const WRITES: [(&[u8], &[Taken], &[u8], How, usize); 20] = [
     (APART, &[BROKEN, BROKEN], b"", How::WriteFault, 1),
@@ -312,8 +312,8 @@ impl<'a, S: Rates, L: LinkBrand> Write for Barred<'a, S, L> {
     }
 }
 
-/// The bytes of a connection, how much of it a read gives at most, whether the last read fails, and the answers of
-/// write calls.
+/// The bytes of a connection, the most of it that a read gives, whether the last read fails, and the answers of write
+/// calls.
 #[derive(Clone, Copy)]
 struct Asked<'a> {
     life: u64,
@@ -365,8 +365,8 @@ fn attended_by<T: Wait + Abort, S: Rates, L: LinkBrand>(
     attend(rt, alloc, port, &pace, clerk, input, output)
 }
 
-// Answers a connection to a link of this name. Gives how it ended, and how many receipts its clerk has, which is how
-// many entries the journal has.
+// Answers a connection to a link of this name. Returns its end, and the number of its clerk's receipts, which is that
+// of the journal's entries.
 fn attended<T, S, L>(
     rt: &T,
     alloc: Global,

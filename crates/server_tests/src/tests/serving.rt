@@ -282,7 +282,7 @@ fn begin_frames(bytes: &[u8]) -> bool {
     true
 }
 
-// Whether the audit is that of the packet. How many write calls took a long frame is the system's choice.
+// Whether the audit is that of the packet. The system chooses the number of write calls that take a long frame.
 fn is_audit(play: Play, audit: &[u8]) -> bool {
     let Some(rest) = audit.strip_prefix(AUDIT_BEGINS.as_bytes()) else {
         return false;

@@ -51,7 +51,7 @@ impl Tables {
         (self.route(ticket), holders::is_kind(&ticket.holder, true))
     }
 
-    /// Lists the routes of the tickets that back currencies, or of those that fund flows, and says how many they are.
+    /// Lists the routes of the tickets that back currencies, or of those that fund flows, and returns their number.
     pub(crate) fn list_routes(&self, backing: bool, routes: &mut [Route; MAX_TICKETS]) -> usize
         ensures listed { take result routes.new ≡ routes_of self.now backing self.now.tickets }
         ensures few { result ≤ 1024 }

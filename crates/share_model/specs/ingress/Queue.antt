@@ -1,5 +1,5 @@
--- The rule of the queue from the workers to the link. What the end of a worker pushed is what the intake popped of it,
--- and then what the queue holds of it.
+-- The rule of the queue from the workers to the link. The end of a worker pushed what the intake popped of it, and then
+-- what the queue holds of it.
 use Rattle.std.specs.Prelude.{◌≡◌, ◌≤◌, ℕ, suc, Bool, true, false, ◌||◌, nat_eq, List, [], ◌∷◌, ◌++◌, length}
 use mathlib.Core.Option.{some}
 use lib.ListN.{get_elem?}

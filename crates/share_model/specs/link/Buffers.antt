@@ -1,7 +1,7 @@
 -- The buffers of the open flows, in order of opening: each a list of payloads, a limit, and the next sequence number. A
--- packet's number is the next number less how many packets there are from it to the back. All but the names of these
--- types holds whatever a packet is seen as. It is seen as its payload, or its payload with the bytes that are stamped
--- before it.
+-- packet's number is the next number less the number of packets from it to the back. All but the names of these types
+-- holds whatever a packet is seen as. It is seen as its payload, or its payload with the bytes that are stamped before
+-- it.
 use Rattle.std.specs.Prelude.{ℕ, ◌+◌, ◌-◌, Bool, true, false, List, [], ◌∷◌, ◌++◌, length, drop, find, map, nat_eq}
 use Rattle.std.specs.Prelude.{nat_le}
 use Rattle.std.specs.Set.{remove_key}

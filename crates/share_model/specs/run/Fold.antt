@@ -17,7 +17,7 @@ pub record Sent : Type 0 where
   pub head : Packet
   pub tariff : ℕ
 
--- the torn packet, the number of its flow's tariff, and how many bytes of its frame were out
+-- the torn packet, the number of its flow's tariff, and the bytes of its frame that were out
 pub record TornFrame : Type 0 where
   pub head : Packet
   pub tariff : ℕ

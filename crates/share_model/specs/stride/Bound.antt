@@ -7,12 +7,12 @@ use borrow.Author.Differences.{up, down}
 use Rattle.share_model.specs.declared.stride.Client.{Client}
 use Rattle.share_model.specs.stride.Moves.{Stride, stride_of}
 
--- by how much a client is ahead of the global pass
+-- the distance by which a client is ahead of the global pass
 abbrev pub distance : ℕ → Client → ℤ
 distance global_pass c = if c.competes then c.pass -ℤ pos global_pass else c.remain
 
--- `up z` is how far z is above zero, `down z` how far below. A client falls behind only when the global pass moves on,
--- so the bound `below` uses the clock at the last update
+-- `up z` is the distance of z above zero, and `down z` that below. A client falls behind only when the global pass
+-- moves on, so the bound `below` uses the clock at the last update
 pub record IsBounded (global_pass last clock : ℕ) (c : Client) : Type 0 where
   pub tickets : c.tickets ≤ 2 ^ 20
   pub stride : c.stride ≡ stride_of c.tickets

@@ -29,7 +29,7 @@ use Rattle.share_model.specs.text.Lines.{reading}
 use Rattle.share_model.specs.text.Report.{report}
 use Rattle.share_model.specs.text.Texts.{line_text}
 
--- A script in progress: what its link came to, how many of its lines were answered, and the count of each write
+-- A script in progress: what its link came to, the number of its lines answered, and the count of each write
 
 pub record Progress : Type 0 where
   pub state : State

@@ -1,4 +1,4 @@
--- Lists in which an item is added, taken out, or changed: what holds of each item, and how many pass a test.
+-- Lists in which an item is added, taken out, or changed: what holds of each item, and the number that pass a test.
 use Rattle.std.proofs.Common.{◌≡◌, ℕ, ◌+◌, ◌≤◌, Bool, true, false, cond, ◌||◌, ◌&&◌, List, [], ◌∷◌, ◌++◌}
 use Rattle.std.proofs.Common.{map, filter, count_by, length, nat_eq, ◌<◌, refl, sym, ap, subst, ◌∙◌, arith}
 use Rattle.std.specs.List.{list_any}

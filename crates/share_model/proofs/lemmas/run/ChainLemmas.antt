@@ -1,5 +1,5 @@
--- Two flows compete with the same tickets before a chain of calls and after each call. What they gain in it is what
--- they are charged, so `one` gains within its share beside `other`.
+-- Two flows compete with the same tickets before a chain of calls and after each call. Their gains in it are their
+-- charges, so `one` gains within its share beside `other`.
 use Rattle.std.specs.Prelude.{◌≡◌, ◌≢◌, ◌<◌, ◌≤◌, ℕ, ℤ, pos, ◌+ℤ◌, ◌-ℤ◌, ◌≤ℤ◌, Bool, true, false, List, [], ◌∷◌}
 use Rattle.std.specs.Prelude.{length, Option, None, Some, IsSomeAnd, IsTrue, MatchBool, option_map, unwrap_or}
 use Rattle.std.specs.Prelude.{if◌then◌else◌}

@@ -40,7 +40,7 @@ total_le bound m each = sum_le competing_tickets bound m each
 abbrev pub shift : (ℕ → Client → Client) → Stride → ℕ → Stride
 shift change s f = let now = update s in with_client now f (change now.pass (client s f))
 
--- by how a move changes its client
+-- the change of a client by a move
 abbrev pub change_of : Move → ℕ → Client → Client
 change_of (Join tickets) global_pass c = after_join global_pass c tickets
 change_of Leave global_pass c = after_leave global_pass c

@@ -170,8 +170,8 @@ fn write_header(bytes: &mut [u8], header: &[u8])
     bytes[HEADER_ROOM - header.len()..HEADER_ROOM].copy_from_slice(header);
 }
 
-/// A frame whose payload is zeros is shown here. A body keeps the count of the zeros alone. It takes no memory of its
-/// own. A contract sees nothing of it.
+/// Shows a frame whose payload is zeros. A body keeps their count alone. A `ZeroFrame` takes no memory of its own, and
+/// a contract sees nothing of it.
 pub struct ZeroFrame {
     // Room for a header, and as many zeros as the longest payload has.
     bytes: [u8; LONGEST_FRAME],

@@ -34,8 +34,8 @@ abbrev pub IsWithinRest : Option Sending → ℕ → Type 0
 IsWithinRest None k = ⊥
 IsWithinRest (Some s) k = (0 < k) × (k ≤ length (rest_of s))
 
--- no write is due, and a turn answers so. The life is spent, the link is broken, or there is nothing to send, in this
--- order
+-- no write is due, and a turn answers why. The reasons, in order: the life is spent, the link is broken, or there is
+-- nothing to send
 abbrev pub WritesNothing : {W : Type 0} → LinkView W → Turn → Type 0
 WritesNothing k turn =
     MatchBool (is_spent k) (turn ≡ Spent)

@@ -21,7 +21,7 @@ use std::marker::Model;
 #[derive(Drop)]
 pub struct PayloadBuffers {
     buffers: Buffers,
-    // Frames whose payloads are zeros are shown here.
+    // Shows the frames whose payloads are zeros.
     frame: ZeroFrame,
 }
 

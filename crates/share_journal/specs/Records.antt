@@ -36,7 +36,7 @@ abbrev pub IsRun : Option Told → ℕ → List Rate → Live → List Entry →
 IsRun told life rates live entries =
     IsRunOf told live.version life rates live (events_in entries) (replies_of entries)
 
--- the same of a link and its journal as they are, if `told` says what a writer reports
+-- the same of a link and its journal as they are; `told` says what a writer reports
 abbrev pub IsRunNow : {W : Type 0} → (W → Option Told) → LinkView W → List Entry → Type 0
 IsRunNow told link entries = IsRun (told link.writer) link.life link.rates link.live entries
 

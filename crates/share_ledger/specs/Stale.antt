@@ -9,15 +9,15 @@ use Rattle.share_ledger.specs.declared.stale.Moved.{Moved}
 use Rattle.share_ledger.specs.Arrays.{flags_of, numbers_of}
 use Rattle.share_ledger.specs.FundingTickets.{funding_tickets_at, worth_at}
 
--- whether the value of a currency may have changed. Its funding tickets or its weight did, or a place that a funding
--- ticket comes from moved
+-- whether the value of a currency may have changed. It may if its funding tickets or its weight did, or a place that a
+-- funding ticket comes from moved
 abbrev pub is_stale : List (List FundingTicket) → (ℕ → Bool) → (ℕ → ℕ) → (ℕ → ℕ) → ℕ → ℕ → Bool
 is_stale ss moved whole seen changed p =
     nat_eq changed p || not (nat_eq (whole p) (seen p))
     || list_any (λ (s : FundingTicket). moved s.from) (funding_tickets_at ss p)
 
--- whether the tickets of a flow may have changed. It is the flow that changed, or it is active and a place that a
--- funding ticket comes from moved
+-- whether the tickets of a flow may have changed. They may if it is the flow that changed, or it is active and a place
+-- that a funding ticket comes from moved
 abbrev pub is_touched : List (List FundingTicket) → (ℕ → Bool) → (ℕ → Bool) → ℕ → ℕ → Bool
 is_touched ss active moved changed p =
     nat_eq changed p || (active p && list_any (λ (s : FundingTicket). moved s.from) (funding_tickets_at ss p))

@@ -18,7 +18,7 @@ use crate::tables::Tables;
 use crate::{chains, ranks};
 
 impl Net {
-    /// Whether all currencies have ranks if a ticket of the currency at `from` also backs that at `to`. Then no chain
+    /// Whether all currencies have ranks if a ticket of the currency at `from` also backs that at `to`. If so, no chain
     /// is too long or leads back. Mostly the kept ranks show it.
     pub(crate) fn has_ranks(&self, from: usize, to: usize) -> bool
         requires within { (p : ℕ) → p < 65 → Each IsFundingTicketWithin (funding_tickets_at self.now.backing.items p) }

@@ -1,5 +1,5 @@
--- The effect of each call on a running link, as a relation. It is between the state behind the lock before it, the
--- answer, and the state after it.
+-- The effect of each call on a running link, as a relation. It relates the state behind the lock before it, the answer,
+-- and the state after it.
 use Rattle.std.specs.Prelude.{◌≡◌, ◌⊎◌, ℕ, suc, true, false, [], ◌∷◌, ◌++◌, length}
 use Rattle.share_base.specs.declared.refusal.Refusal.TheVariants.{NoMemory, Spent as SpentRefusal}
 use Rattle.share_base.specs.declared.command.Command.{Command}

@@ -299,8 +299,8 @@ impl Backlogs {
         }
     }
 
-    /// Whether a worker is at work that filled a flow whose buffer was empty at the last `allow`. A packet of the flow
-    /// may be at hand soon.
+    /// Whether a worker is at work that filled a flow whose buffer was empty at the last `allow`. If so, a packet of
+    /// the flow may be at hand soon.
     pub fn awaits(&self, pace: &Pace) -> bool {
         for (at, filler) in self.fillers.iter().enumerate().take(self.workers) {
             if filler.is_one_empty && !pace.is_waiting(at as u64 + 1) {

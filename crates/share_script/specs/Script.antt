@@ -40,7 +40,7 @@ pub record Printed (before after_it : Option (List ℕ)) (old : LinkView Told) (
 
 -- the whole script was read, and the answers to its lines were printed. They are the texts of the outcomes of the
 -- events that the lines make, and each text without an event in its place. Of these events, on frames of the version
--- that the first line chooses, the link and its tape keep the sentence of this project
+-- that the first line chooses, the link and its tape keep the promise of this project
 pub record IsOneFold (before after_it : Option (List ℕ)) (old : LinkView Told) (script : List ℕ)
     (left : Option (List ℕ))
     (new : LinkView Told) : Type 0 where

@@ -106,8 +106,8 @@ fn lost_or_failed(fault: Error) -> Result<bool>
     }
 }
 
-// Whether an error of this number says that one packet was not taken. There is no room for it, the device is down, or
-// it takes no packet of this length or with these bytes.
+// Whether an error of this number says that one packet was not taken. Then there is no room for it, the device is down,
+// or it takes no packet of this length or with these bytes.
 fn loses_one_packet(number: Option<i32>) -> bool
     ensures { result ≡ loses_one_packet number }
 {

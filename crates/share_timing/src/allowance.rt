@@ -78,8 +78,8 @@ fn most(rate: u64) -> u128
     DEBT * BILLION + u128::from(rate) * SAVED
 }
 
-/// Laws of each allowance from the beginning on. The bytes that were sent are at most those of the time that passed and
-/// of the 20 milliseconds that are saved up. One frame of the longest kind is added.
+/// Laws of each allowance from the beginning on. The bytes that were sent are at most a sum of three terms. They are
+/// the bytes of the time that passed, of the 20 milliseconds that are saved up, and of one frame of the longest kind.
 pub fn rates_are_kept()
     ensures { (rate bytes nanoseconds : ℕ) (a : AllowanceView) → Keeps rate bytes nanoseconds a
         → bytes * 1000000000 ≤ rate * (nanoseconds + 20000000) + 9017 * 1000000000 }

@@ -51,7 +51,7 @@ impl State {
         }
     }
 
-    /// The dial that began succeeded at this moment. Returns false if none began, and then nothing changes.
+    /// The dial that began succeeded at `now`. Returns false if none began, and then nothing changes.
     pub(crate) fn connect(&mut self, now: Instant) -> bool
         ensures began { result ≡ dials_of self.old }
         ensures up { result ≡ true → state_of self.new ≡ Up }

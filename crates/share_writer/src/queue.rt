@@ -154,7 +154,7 @@ impl DiskQueue {
         self.shared.written().min(self.given)
     }
 
-    /// The number of bytes given and are not written.
+    /// The number of bytes that were given and are not written.
     pub fn waiting(&self) -> u64
         ensures { result ≤ self.now.given }
     {

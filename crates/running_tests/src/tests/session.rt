@@ -1,5 +1,5 @@
-//! Sessions as rows of text, the questions to a running link and its answers, as `C1 open a 4 1 = 1 flow 1; admit =
-//! empty`. `C1` is the first clerk, whose command is answered with the number of its entry before the reply. `E1 a hi`
+//! Sessions as rows of text, as `C1 open a 4 1 = 1 flow 1; admit = empty`: questions to a running link, and its
+//! answers. `C1` is the first clerk, whose command is answered with the number of its entry before the reply. `E1 a hi`
 //! offers the payload `hi` for the flow a at the first end, and `E1 a x*9000` a payload of 9000 bytes.
 
 use super::assertions::{holds, same};

@@ -9,7 +9,7 @@ use share_script::ScriptFault;
 use std::alloc::Global;
 use std::process::Abort;
 
-/// The number of bytes of a line from which on it is answered so, its answer, and then the line of the bytes.
+/// The number of bytes from which on a line is answered so, the answer, and then the line of the bytes.
 type Cut = (usize, &'static [u8], &'static [u8]);
 
 const NOTHING: &[u8] = b"";

@@ -28,7 +28,7 @@ largest_gain flow first [] = pos 0
 largest_gain flow first (next ∷ later) = int_max (gain flow first next) (largest_gain flow next later)
 
 -- the gain of `one` in a chain is at most the greater of 0 and a sum of three terms. They are the gain of `other`, the
--- distance of its place ahead at the start, and the largest gain of `one` in a call
+-- lead of its place at the start, and the largest gain of `one` in a call
 abbrev pub GainsWithinShare : {W : Type 0} → ℕ → ℕ → LinkView W → List (LinkView W) → Type 0
 GainsWithinShare one other first later =
     gain one first (last_link first later)

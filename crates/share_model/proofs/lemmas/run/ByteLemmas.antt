@@ -249,7 +249,7 @@ out-between s untorn none =
 abbrev pub sent_of : Sending → Sent
 sent_of s = record { head = s.head; tariff = s.tariff }
 
--- the outcome of a write, if b says whether the frame is whole
+-- the outcome of a write; b says whether the frame is whole
 abbrev pub write_as : List Rate → Live → Sending → ℕ → Bool → Live × Turn
 write_as rates l s k b =
     if b then (whole rates l s k, Wrote s.head.flow s.head.seq k true) else

@@ -10,7 +10,7 @@ packet that is missing or comes out of order, end the program with status 1, onc
 
 *loads.* Four tenants with 400:300:200:100 tickets flood a gateway. The far end's rate or the gateway's, the lengths and
 the tariffs vary. Then a tenant with one connection floods beside one with eight. SECONDS is how long a load lasts (8).
-*shaped.* The far end stands in a network namespace, behind a link that `tc` shapes. It needs the leave to make one.
+*shaped.* The far end stands in a network namespace, behind a link that `tc` shapes. It needs permission to make one.
 *changes.* Books are rotated, the file is read anew, tenants are held and resumed, grants are amended, and a currency's
 tenants go and come.
 """

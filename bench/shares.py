@@ -8,7 +8,7 @@ status 1, once all rows are printed.
 
 *loads.* Four tenants with 400:300:200:100 tickets flood the server. The rate of the far end, the limit of the flows, the
 connections, the lengths and the tariffs vary; SECONDS is how long each load lasts (8).
-*shaped.* The far end stands in a network namespace, behind a link that `tc` shapes. It needs the leave to make one.
+*shaped.* The far end stands in a network namespace, behind a link that `tc` shapes. It needs permission to make one.
 *changes.* Flows of a currency go and come, a flow is held and resumed, a ticket is amended; each beside busy loops too.
 *lone.* Packets come one by one at random pauses, in LINKS servers at once (12) for MINUTES minutes (5): the product is
 how long a link was waited for. Each packet is wanted within half a minute: a wake-up that is lost lasts for ever.

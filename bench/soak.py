@@ -379,7 +379,7 @@ class Clerk(threading.Thread):
             self.release()
 
     def release(self):
-        """Puts the ticket that funded the flow behind the others, or a new one in its place."""
+        """Puts the ticket that funded the flow after the others, or a new one in its place."""
         if self.draw.randrange(TICKETS):
             self.tickets.append(self.funding)
         else:
@@ -451,7 +451,7 @@ class Load:
         return sum(self.sent), self.peer.got, sum(clerk.asked for clerk in self.clerks)
 
     def look(self):
-        """Looks at all that plays, and lets the clerks end behind the last packet."""
+        """Checks all that plays, and lets the clerks end after the last packet."""
         self.peak = max(self.peak, peak(self.server))
         for player in (self.peer, *self.clerks):
             expect(player.fault is None, "a client fails: %r" % player.fault)
@@ -647,7 +647,7 @@ def told(results, what):
 
 
 def asked_until(control, results):
-    """Asks one line after another until a process has told what it did: the microseconds to each reply."""
+    """Sends one line after another until a process has reported what it did: the microseconds to each reply."""
     times, until = [], time.monotonic() + SECONDS + LEFT
     while not results.poll():
         expect(time.monotonic() < until, "nothing moves any more: a flood")

@@ -37,8 +37,8 @@ LINK = {"near": "10.9.0.1", "far": "10.9.0.2"}
 NETWORK = "10.9.0.0/24"
 PORT = 7003
 
-# The congestion control of TCP, whatever that of the machine is. BBR all but stops for 200 ms of each 10 s, to see how
-# short a round trip can be.
+# The congestion control of TCP, whatever that of the machine is. BBR nearly stops for 200 ms of each 10 s, to measure
+# the shortest round trip.
 CONGESTION = "cubic"
 
 # A device counts bytes without a sender's headers of the link, which TUN devices do not have.

@@ -22,7 +22,7 @@ from serving import PATIENCE, Failure, expect, expect_equal, try_cases, wait_for
 LIMIT = 120
 LIMIT_OF_ALL = 600
 
-# The lengths of payloads, at their bounds and between, and lengths that are none: the last is that of the longest
+# The lengths of payloads, at their bounds and between, and lengths that no payload has: the last is that of the longest
 # datagram.
 LENGTHS = [1, 2, 100, 1472, 8999, 9000]
 NO_PAYLOADS = [0, 9001, 65507]

@@ -32,7 +32,7 @@ refuses() {
     wants 1 "$output" "stridelink: line $text"$'\n' 'stridelink run "$folder/script" --strict'
 }
 
-# A script is read from where the words say.
+# A script is read from the place that the words name.
 answers=$(< examples/one-packet.output)$'\n'
 wants 0 "$answers" '' "stridelink run < $script"
 wants 0 "$answers" '' "stridelink run - < $script"

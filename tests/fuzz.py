@@ -23,9 +23,9 @@ LEAST times. At the first difference it ends with status 1: it prints the seed, 
 is given to the program again, and the first line that differs, in both answers; and it writes three files to the
 current folder, named after the seed and the case: the input, what was found and what was wanted.
 
-What a seed draws changes with this file, so what is found is kept as a test by whoever finds it: as a script with its
-output in tests/scripts/, or as a case of serve.py. Not drawn are strict runs, several connections of a kind, and whatever
-the system takes away.
+What a seed draws changes with this file, so anyone who finds a fault keeps it as a test: as a script with its output in
+tests/scripts/, or as a case of serve.py. Strict runs, several connections of a kind, and whatever the system takes away
+are not drawn.
 """
 import argparse
 import contextlib
@@ -117,7 +117,7 @@ def lines_of(text):
 
 
 def value_of(word, wanted):
-    """The meaning of a word where another is wanted; None if it does not fit."""
+    """The meaning of a word if another is wanted; None if it does not fit."""
     if wanted not in WORDS:
         return word if word == wanted else None
     value = VALUES[wanted](word) if WORDS[wanted].fullmatch(word) else None
@@ -998,7 +998,7 @@ class Drawer:
             self.doubtful()
 
     def fault(self):
-        """A fault in a frame or before it, and lines behind it."""
+        """A fault in a frame or before it, and lines after it."""
         self.turn()
         if self.happens(0.6):
             self.give("turn %d" % self.pick(TURN_SIZES[:5]))
@@ -1155,7 +1155,7 @@ def script_case(case):
 
 
 def give_pieces(case, connection, data):
-    """Sends data in pieces, some of them with a rest behind. The server may end the connection before."""
+    """Sends data in pieces, some of them with a rest after them. The server may end the connection before."""
     with contextlib.suppress(OSError):
         for piece in pieces_of(case.chance, data):
             connection.sendall(piece)
@@ -1358,7 +1358,7 @@ def tell(case, fault):
 
 
 def run_seed(seed, until, agreed):
-    """Runs the cases of a seed, until a moment where one is given."""
+    """Runs the cases of a seed, until a moment if one is given."""
     for kind, play, count in CASES:
         for number in range(1, count + 1):
             if until and time.monotonic() > until:

@@ -322,7 +322,7 @@ def wait_until_full(gateway, names, size):
 
 def too_many_connections(run):
     """A connection beyond a tenant's 64 is closed at once, and reported. Others and other tenants are not touched, and
-    where one ends another one is taken. At most ten lines of a kind are printed in a second, and then a count."""
+    if one ends another one is taken. At most ten lines of a kind are printed in a second, and then a count."""
     far = run.far_end()
     gateway = run.gateway(far, {"a": 1, "b": 1})
     connections = [run.keep(gateway.connect("a")) for _ in range(MOST_CONNECTIONS)]
@@ -910,7 +910,7 @@ def seconds_taken(work):
 
 def wrong_records(run):
     """A record that is malformed, or has another tenant's name, ends its connection and no other one. All records
-    before it stand, and half a record is none."""
+    before it stand, and half a record is not one."""
     far = run.far_end()
     gateway = run.gateway(far, {"a": 1, "b": 1})
     good = run.keep(gateway.connect("a"))
@@ -935,7 +935,7 @@ def wrong_records(run):
 
 
 def slow_bytes(run):
-    """A client that sends a byte now and then has its packets sent, and no other client waits for it."""
+    """A client that sends a byte at times has its packets sent, and no other client waits for it."""
     far = run.far_end()
     gateway = run.gateway(far, {"a": 1, "b": 1})
     data = records("a", range(3), 30)

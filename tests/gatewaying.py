@@ -157,7 +157,7 @@ class FarEnd:
             after = at + FRAME.size + length
             if after > end:
                 break
-            # Who waits for the count finds all else of the frame.
+            # A thread that waits for the count finds the rest of the frame.
             if self.keeps:
                 self.keep(flow, data[at + FRAME.size:after])
             self.bytes[flow] = self.bytes.get(flow, 0) + after - at

@@ -142,7 +142,7 @@ def read_and_close(peer):
 
 
 def peer_goes_unseen(run):
-    """A peer that only says that it sends nothing gets all, and one that is reset behind the last frame tears nothing:
+    """A peer that only says that it sends nothing gets all, and one that is reset after the last frame tears nothing:
     no write fails."""
     for many, leave in ((0, finish), (10 * 1017, reset)):
         peer = run.peer(going(many, leave))
@@ -218,7 +218,7 @@ def limited(what, limit):
 
 
 def no_descriptor_to_begin(run):
-    """Both listeners, the uplink and another handle of each listener need a descriptor each, behind that of the audit's
+    """Both listeners, the uplink and another handle of each listener need a descriptor each, after that of the audit's
     file, and take them in this order. With fewer than four descriptors the system does not start a program."""
     peer = run.peer()
     faults = [text + ": Too many open files (os error 24)" for text in (

@@ -24,7 +24,7 @@ WINDOW = 5.0
 # By how much a share in a window may differ from that of the tickets.
 MOST_ERROR = 0.01
 
-# How long a flood that stops may still be in buffers on its way, and a command in buffers behind the link.
+# How long a flood that stops may still be in buffers on its way, and a command in buffers after the link.
 DRAINED = 2.5
 
 # After how many seconds floods begin together, and after how many without a packet they are over.

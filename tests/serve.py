@@ -402,7 +402,7 @@ def few_are_refused(run):
 
 def malformed(run):
     """A field that no record has ends its connection as soon as it is whole; what came before it is sent, and nothing
-    behind it."""
+    after it."""
     for what, bad in BAD_FIELDS.items():
         peer = run.peer()
         server = run.server(peer, workers=2)
@@ -1024,8 +1024,8 @@ def nothing_is_left(server):
 
 
 def fault_addresses(run):
-    """An address that is taken, one that is none, and an uplink that nobody listens on: each with the system's reason.
-    """
+    """An address that is taken, a text that is not one, and an uplink that nobody listens on: each with the system's
+    reason."""
     peer = run.peer()
     with socket.socket() as taken, socket.socket() as silent:
         taken.bind((LOOPBACK, 0))
@@ -1288,7 +1288,7 @@ def tells_of_an_uplink(run):
 
 
 def tells_of_refused_packets(run):
-    """Packets that are refused are told of while the server runs: the first of a connection, then each time that there
+    """Packets that are refused are reported while the server runs: the first of a connection, then each time that there
     are twice as many, and at the end."""
     peer = run.peer()
     server = run.server(peer, workers=2)

@@ -49,7 +49,7 @@ LATE_UPLINK = "the uplink failed: timed out"
 # The version of frames and audits that a served link writes.
 SERVED = 2
 
-# By version: the fields of a header behind its mark and its version, how many bytes the whole header has, and the most
+# By version: the fields of a header after its mark and its version, how many bytes the whole header has, and the most
 # bytes of a payload.
 FIELDS = {1: ">IIH", 2: ">BIQH"}
 HEADER = {1: 12, 2: 17}
@@ -326,7 +326,7 @@ class Server:
 
     def ends(self, status=0, fault=None, seconds=PATIENCE):
         """Wants that the server ends with this status, and that this fault, or one of these, is the last line that it
-        tells."""
+        prints."""
         found = self.wait(seconds)
         told = self.text("stderr")
         expect_equal(found, status, "status (told: %s)" % shortened(told))
@@ -440,7 +440,7 @@ def one_packet(server):
 
 
 class Replay:
-    """The audit of a served link, and what `stridelink run` answers to it and to a report behind it."""
+    """The audit of a served link, and what `stridelink run` answers to it and to a report after it."""
 
     def __init__(self, audit, life):
         expect(audit.startswith("audit %d\n" % SERVED) and audit.endswith("\n"), "no audit: %s" % shortened(audit))
@@ -519,7 +519,7 @@ def check_frames(replay):
 
 def check(server, peer, sent=None, torn=False):
     """The checks of each run that has ended: the audit gives the bytes that the peer got, or bytes that begin with
-    them if the uplink is torn; each connection's packets stand in it, if these are told; and the report is that
+    them if the uplink is torn; each connection's packets stand in it, if these are given; and the report is that
     of the audit."""
     with open(server.audit_path, encoding="ascii") as source:
         replay = Replay(source.read(), server.life)

@@ -240,8 +240,8 @@ fn number_of(flow: Option<FlowNo>) -> Option<u64> {
     }
 }
 
-// The number or the tickets of the flow at a place, or its number if it is active. Or the tickets that each of that
-// many first flows has.
+// The number or the tickets of the flow at a place, or its number if it is active. Another answer is the tickets that
+// each of that many first flows has.
 fn read_place(ledger: &Ledger, verb: &str, first: u64) -> Answer {
     let place = usize::try_from(first).unwrap_or(usize::MAX);
     match verb {

@@ -23,7 +23,7 @@ const LONGEST_FRAME: usize = HEADER_ROOM + MAX_PAYLOAD;
 static ZEROS: [u8; MAX_PAYLOAD] = [0; MAX_PAYLOAD];
 
 /// The payload of a packet: 1 to 9000 bytes, with room for a header before them. Up to 16 are held in the value itself,
-/// more in memory of their own. Of zeros the count alone may be kept. A contract sees the bytes last stamped before the
+/// more in memory of their own. The count of zeros alone may be kept. A contract sees the bytes last stamped before the
 /// payload, and the payload.
 pub struct Body {
     // The room and the payload behind it; the room alone if the payload is zeros.

@@ -1,4 +1,4 @@
--- The room of a body and what is stamped in it, and its payload: bytes behind the room, or a count of zeros.
+-- The room of a body and what is stamped in it, and its payload: bytes after the room, or a count of zeros.
 use Rattle.std.proofs.Common.{◌≡◌, ◌⊎◌, ◌≤◌, ◌<◌, ◌+◌, ◌-◌, ◌++◌, ◌∙◌, ℕ, List, length, take, drop, replicate, inl, inr}
 use Rattle.std.proofs.Common.{arith, sym, ap, refl}
 use Rattle.std.proofs.lemmas.List.{length-append, length-take, length-drop, drop-drop, append-nil, take-replicate}

@@ -23,10 +23,10 @@ const LONGEST_FRAME: usize = HEADER_ROOM + MAX_PAYLOAD;
 static ZEROS: [u8; MAX_PAYLOAD] = [0; MAX_PAYLOAD];
 
 /// The payload of a packet: 1 to 9000 bytes, with room for a header before them. Up to 16 are held in the value itself,
-/// more in memory of their own. Of zeros the count alone may be kept. A contract sees the bytes last stamped before the
+/// more in memory of their own. The count of zeros alone may be kept. A contract sees the bytes last stamped before the
 /// payload, and the payload.
 pub struct Body {
-    // The room and the payload behind it; the room alone if the payload is zeros.
+    // The room and the payload after it; the room alone if the payload is zeros.
     bytes: SmallVec<u8, IN_PLACE>,
     // The number of zeros in the payload, and 0 if its bytes are held.
     zeros: u16,
@@ -146,7 +146,7 @@ impl Body {
         self.stamped = header.len() as u8;
     }
 
-    /// The bytes last stamped, none before a stamp, and the payload behind them. They are the body's own, or, if the
+    /// The bytes last stamped, none before a stamp, and the payload after them. They are the body's own, or, if the
     /// payload is zeros, are shown in the frame.
     pub fn framed_in<'a>(&'a self, frame: &'a mut ZeroFrame) -> &'a [u8]
         ensures { result.now ≡ framed_bytes self.now }

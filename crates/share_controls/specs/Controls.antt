@@ -6,8 +6,9 @@ use Rattle.share_controls.specs.declared.connection.Front.{Front}
 use Rattle.share_controls.specs.declared.connection.Front.TheVariants.{Line, OverLong, Nothing}
 
 -- the token of its events, the front of its lines, and the nanoseconds at which the last line came there, or the
--- connection was made. Then the line that was given last, the bytes that came after it, and the replies that were not
--- taken. Last what its socket may be ready for, whether its last line came, and whether its last reply went out
+-- connection was made. Then come the line that was given last, the bytes that came after it, and the replies that were
+-- not taken. Last come what its socket may be ready for, whether its last line came, and whether its last reply went
+-- out
 pub record ControlView : Type 0 where
   pub token : ℕ
   pub front : Front

@@ -161,7 +161,8 @@ impl<W, S: Rates> Engine<W, S> {
     }
 
     /// The position of an open flow in the queue: whether it competes, its tickets and stride (the last ones if it does
-    /// not compete). Then its pass or, if it does not compete, its remain. `None` if no open flow has this number.
+    /// not compete). Then comes its pass or, if it does not compete, its remain. `None` if no open flow has this
+    /// number.
     pub fn position(&self, flow: FlowNo) -> Option<Position>
         ensures { result ≡ position_at self.now flow }
     {

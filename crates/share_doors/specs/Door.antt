@@ -2,9 +2,9 @@
 use Rattle.std.specs.Prelude.{ℕ, ◌+◌, ◌-◌, ◌^◌, min}
 use Rattle.share_model.specs.funding.Graph.{NameBytes}
 
--- the tenant's name, and the number of its flow; the number of packets taken, and the bytes of their payloads. Then the
--- number of packets of packet ports that were read, and the number dropped. Last the number of packets that it was
--- given to deliver, and the number lost
+-- the tenant's name, and the number of its flow; the number of packets taken, and the bytes of their payloads. Then
+-- come the number of packets of packet ports that were read, and the number dropped. Last come the number of packets
+-- that it was given to deliver, and the number lost
 pub record DoorView : Type 0 where
   pub tenant : NameBytes
   pub flow : ℕ

@@ -1,4 +1,4 @@
--- The fields of a header, read in any bytes, each high byte first.
+-- The fields of a header, read in any bytes, each big-endian.
 use Rattle.std.specs.Prelude.{◌≡◌, ◌<◌, ◌≤◌, ◌+◌, ◌/◌, ℕ, List, [], ◌∷◌, length, slice_index}
 use Rattle.std.specs.Int.{from_be_bytes, w16, w32, w64}
 use Rattle.share_base.specs.Version.{header_length, max_payload}

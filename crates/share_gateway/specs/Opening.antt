@@ -110,8 +110,8 @@ hold_commands t = if t.1.held then planned (Tenant t.0) (Hold t.1.name) ∷ [] e
 
 -- ---- The opening
 
--- each currency; each flow number from 1 to the greatest. Then each grant, whose ticket has its number among all
--- grants, and a hold for each tenant that is held
+-- each currency, and each flow number from 1 to the greatest. Then come each grant, whose ticket has its number among
+-- all grants, and a hold for each tenant that is held
 abbrev pub opening : PlanView → List PlanCommand
 opening p =
     map make_command (numbered p.currencies)

@@ -7,8 +7,8 @@ use Rattle.share_model.specs.declared.writer.Answer.{Answer}
 use Rattle.share_model.specs.declared.writer.Answer.TheVariants.{Accepted, Interrupted, Failed}
 use Rattle.share_model.specs.io.Told.{Told}
 
--- the frames that are not out whole, and the number of bytes of the first of them that are out. Then the number of
--- bytes, from its beginning on, that may be out
+-- the frames that are not out whole, and the number of bytes of the first of them that are out. Then comes the number
+-- of bytes, from its beginning on, that may be out
 pub record OutboxView : Type 0 where
   pub frames : List (List ℕ)
   pub out : ℕ

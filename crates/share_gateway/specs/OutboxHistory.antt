@@ -5,8 +5,8 @@ use Rattle.share_gateway.specs.Outbox.{OutboxView, empty_outbox, with_frame, all
 use Rattle.share_gateway.specs.Outbox.{begun_again}
 
 -- The calls of an outbox from its beginning on. They have the frames that went in, and the number of bytes allowed.
--- Then the bytes given out before each `again`, the earliest first, and those given out since the last one. Last the
--- outbox as it is.
+-- Then come the bytes given out before each `again`, the earliest first, and those given out since the last one. Last
+-- comes the outbox as it is.
 pub data History : List (List ℕ) → ℕ → List (List ℕ) → List ℕ → OutboxView → Type 0 where
   began : History [] 0 [] [] empty_outbox
   put : (frames : List (List ℕ)) (allowed : ℕ) (before : List (List ℕ)) (given : List ℕ) (o : OutboxView)

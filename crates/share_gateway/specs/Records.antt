@@ -5,8 +5,8 @@ use Rattle.share_ingress.specs.Found.{NeedsMore}
 use Rattle.share_gateway.specs.declared.records.Cut.{Cut}
 use Rattle.share_gateway.specs.declared.records.Cut.TheVariants.{Item as ItemCut, More, Bad}
 
--- the name of the tenant; the bytes of the stream that were not given yet. Then the payload that was given last, until
--- more of the stream comes
+-- the name of the tenant, and the bytes of the stream that were not given yet. Then comes the payload that was given
+-- last, until more of the stream comes
 pub record RecordsView : Type 0 where
   pub name : List ℕ
   pub bytes : List ℕ

@@ -20,9 +20,9 @@ pub record EndView : Type 0 where
   pub pushed : List Offer
   pub refused : ℕ
 
--- the name of the queue, the most offers that it holds, and the number of its workers. Then what was popped, and what
--- it held just after the last pop. Last the workers whose ends were joined to the intake, and the number of pops that
--- found nothing
+-- the name of the queue, the most offers that it holds, and the number of its workers. Then come what was popped, and
+-- what it held just after the last pop. Last come the workers whose ends were joined to the intake, and the number of
+-- pops that found nothing
 pub record IntakeView : Type 0 where
   pub link : LinkName
   pub capacity : ℕ

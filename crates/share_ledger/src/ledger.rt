@@ -139,9 +139,9 @@ impl Ledger {
     }
 
     /// Makes a ticket fund a currency. `NoTicket` if none has this number, `NoCurrency` if none has this name, `Base`
-    /// if it is `base`, `Funding` if the ticket has a holder. Then `Crowded` if 16 tickets fund the currency. Then
-    /// `Cycle` if the currency is the ticket's denomination or backs it, by however many steps. Last `Deep` if nine
-    /// currencies besides `base` would be in a chain.
+    /// if it is `base`, `Funding` if the ticket has a holder. Then comes `Crowded` if 16 tickets fund the currency.
+    /// Then comes `Cycle` if the currency is the ticket's denomination or backs it, by however many steps. Last is
+    /// `Deep` if nine currencies besides `base` would be in a chain.
     pub fn fund_currency(&mut self, ticket: u64, currency: Name) -> Result<(), Refusal>
         ensures done { IfOk result
             (λ _. (fund_currency_refusal self.old ticket currency ≡ None)
@@ -158,7 +158,7 @@ impl Ledger {
     }
 
     /// Makes a ticket fund a flow. `NoTicket` if none has this number, `NoFlow` if no open flow has this name,
-    /// `Funding` if the ticket has a holder. Last `Crowded` if 16 tickets fund the flow.
+    /// `Funding` if the ticket has a holder. Last is `Crowded` if 16 tickets fund the flow.
     pub fn fund_flow(&mut self, ticket: u64, flow: Name) -> Result<(), Refusal>
         ensures done { IfOk result
             (λ _. (fund_flow_refusal self.old ticket flow ≡ None) × (self.new ≡ fund_flow self.old ticket flow)) }

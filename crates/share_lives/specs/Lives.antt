@@ -35,8 +35,8 @@ use Rattle.share_lives.specs.declared.remainder.Remainder.{Remainder}
 use Rattle.share_lives.specs.declared.stage.Phase.{Phase}
 use Rattle.share_lives.specs.declared.stage.Phase.TheVariants.{Open, Carrying, Over}
 
--- the state of the life of a book, with the books' views. Then the tariffs of the open book, and the most events and
--- the kind of the text of a book. Last the plan of the next one, if it is another
+-- the state of the life of a book, with the books' views. Then come the tariffs of the open book, and the most events
+-- and the kind of the text of a book. Last comes the plan of the next one, if it is another
 pub record LifeView : Type 0 where
   pub stage : Phase
   pub rates : List Rate

@@ -10,7 +10,7 @@ use Rattle.share_locked.specs.Calls.{CommandMade, Admission}
 use Rattle.share_locked.specs.Views.{LockedView, ClerkView}
 use Rattle.share_locked.specs.declared.locked.Admit.{Admit}
 
--- a call: a clerk before and after it, its command, and the number and the reply that it got. Or the result of an
+-- a call: a clerk before and after it, its command, and the number and the reply that it got. Or it is the result of an
 -- admission; or the most bytes that a turn offers, and its result
 pub data LockedCall : Type 0 where
   OfClerk : ClerkView → Command → ℕ → Reply → ClerkView → LockedCall

@@ -1,4 +1,4 @@
-//! A running link: what is behind its lock, its clerks, the worker that serves it, and its settling.
+//! A running link: the state behind its lock, its clerks, the worker that serves it, and its settling.
 #![tactic(auto)]
 
 mod backlogs;

@@ -64,8 +64,8 @@ pub record Fails (before last : State) : Type 0 where
 
 -- The sentence
 
--- the version of a link's frames, its life and its tariffs. Then the events that it made, in their order, and the
--- replies to them. Last what the link holds after them, and what its writer reports, if it reports anything
+-- the version of a link's frames, its life and its tariffs. Then come the events that it made, in their order, and the
+-- replies to them. Last come what the link holds after them, and what its writer reports, if it reports anything
 pub record Headline (version : Version) (life : ℕ) (rates : List Rate) (events : List Event) (replies : List Outcome)
     (l : Live) (told : Option Told) : Type 0 where
   -- commands and arrivals came in any order; writes accepted any counts, and none came after a fault

@@ -120,8 +120,8 @@ pub fn packets_are_kept()
         × ((run version rates events).live.torn ≡ Some frame.head.flow) }
 {}
 
-/// The packets that an open flow accepted are, in order, those written whole and those that its buffer holds. Of any
-/// flow, open or closed, the packets written whole are the first of those that it accepted.
+/// The packets that an open flow accepted are, in order, those written whole and those that its buffer holds. The
+/// packets of any flow, open or closed, that were written whole are the first of those that it accepted.
 pub fn packets_are_sent_as_accepted()
     ensures open { (version : Version) (life : ℕ) (rates : List Rate) (events : List Event) → AreInRange rates
         → MayRun version life rates events → (flow : ℕ)

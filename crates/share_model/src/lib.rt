@@ -1,6 +1,6 @@
 //! The definitions that the layers of stridelink are proved against, in `specs/`, with their laws beside them. The
-//! plain types that these definitions and the code share. The traits of readers and writers that report what they gave
-//! and took.
+//! crate has the plain types that these definitions and the code share. It has the traits of readers and writers that
+//! report what they gave and took.
 #![tactic(auto)]
 
 pub mod allocator;

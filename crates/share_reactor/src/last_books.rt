@@ -7,7 +7,7 @@ use std::fs::{File, Files};
 use std::io::{ErrorKind, Read, Seek, SeekFrom};
 use std::{fs, io};
 
-/// The number of bytes looked at at the end of the file. A row has fewer than 700.
+/// The number of bytes at the end of the file that are looked at. A row has fewer than 700.
 const TAIL: u64 = 4096;
 
 /// The names of the columns, and the rows of the last books. A file that is not there has no rows.

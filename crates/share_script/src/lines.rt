@@ -56,8 +56,8 @@ impl<R: TellingReader + Drop> IncomingLines<R> {
         })
     }
 
-    /// Takes the next line of the bytes that came, if it is here as a whole. Of a line whose line feed did not come, no
-    /// more than the first 20481 bytes stay ahead.
+    /// Takes the next line of the bytes that came, if it is here as a whole. No more than the first 20481 bytes of a
+    /// line stay ahead if its line feed did not come.
     pub fn next(&mut self) -> Incoming
         ensures next { IsNextLine self.old.ahead result self.new.line self.new.ahead }
         ensures reader { self.new.reader ≡ self.old.reader }

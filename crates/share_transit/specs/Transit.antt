@@ -11,8 +11,8 @@ use Rattle.share_book.specs.declared.book.Turned.TheVariants.{NoText, NoRoom, Sp
 use Rattle.share_gateway.specs.Outbox.{OutboxView, empty_outbox, allow_more}
 use Rattle.share_transit.specs.declared.transit.Due.{Due}
 
--- the outbox, and the frames whose text is not written, which are the last ones in it. Then the bytes of text handed to
--- the disk, and those that it has written
+-- the outbox, and the frames whose text is not written, which are the last ones in it. Then come the bytes of text
+-- handed to the disk, and those that it has written
 pub record TransitView : Type 0 where
   pub outbox : OutboxView
   pub due : List Due

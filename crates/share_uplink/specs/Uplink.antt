@@ -14,11 +14,11 @@ use Rattle.share_uplink.specs.declared.state.UplinkState.TheVariants.{Up, Dialli
 use Rattle.share_uplink.specs.declared.state.Work.{Work}
 use Rattle.share_uplink.specs.declared.state.Work.TheVariants.{Rests, Busy, Connected, Lost, Unreachable}
 
--- the address, and the size that is asked for its send buffer. Then whether it is connected, and if not, whether a dial
--- began. Then since when either is so, or otherwise when it is dialled, and the milliseconds of the pause before the
--- next dial but one. Then the readiness of its socket, and the bytes that the last connection was given, and all. Last
--- the bytes that may be lost at the near end, by the last loss and by all. And the kind of fault of the last loss or
--- failed dial
+-- the address, and the size that is asked for its send buffer. Then comes whether it is connected, and if not, whether
+-- a dial began. Then come since when either is so, or otherwise when it is dialled, and the milliseconds of the pause
+-- before the next dial but one. Then come the readiness of its socket, and the bytes that the last connection was
+-- given, and all. Last come the bytes that may be lost at the near end, by the last loss and by all. With them comes
+-- the kind of fault of the last loss or failed dial
 pub record UplinkView : Type 0 where
   pub address : SocketAddr
   pub buffer : ℕ

@@ -160,7 +160,7 @@ impl Uplink {
         self.sent
     }
 
-    /// The number of bytes given at the last loss that may have been left in its socket.
+    /// The number of bytes given to the connection that was lost last, of those that may have been left in its socket.
     pub fn lost_at_most(&self) -> u64
         ensures { result ≡ self.now.lost_at_most }
     {

@@ -4,8 +4,8 @@ use Rattle.share_web.specs.Heads.{is_over, taken}
 use Rattle.share_web_clients.specs.declared.client.Stage.{Stage}
 use Rattle.share_web_clients.specs.declared.client.Stage.TheVariants.{Reading, Asked, Answering, Closing, Over}
 
--- the token of its events, the nanoseconds of its beginning, and its stage. Then the bytes of its head, those of its
--- answer that the socket has not taken, and what the socket may be ready for
+-- the token of its events, the nanoseconds of its beginning, and its stage. Then come the bytes of its head, those of
+-- its answer that the socket has not taken, and what the socket may be ready for
 pub record ClientView : Type 0 where
   pub token : ℕ
   pub begun : ℕ

@@ -1,8 +1,8 @@
 -- The view of the queue to the disk in contracts, and the effects of its calls. A count stops at 2^64 - 1.
 use Rattle.std.specs.Prelude.{ℕ, ◌+◌, ◌-◌, ◌^◌, min, Bool, true, false, List, length, if◌then◌else◌}
 
--- the number of bytes given to the disk, over all books, and that at the last request of a sync. Then the number of
--- books given to be closed, and whether the last one was
+-- the number of bytes given to the disk, over all books, and that at the last request of a sync. Then come the number
+-- of books given to be closed, and whether the last one was
 pub record QueueView : Type 0 where
   pub given : ℕ
   pub asked : ℕ

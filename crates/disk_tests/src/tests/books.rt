@@ -76,7 +76,7 @@ pub(super) const NO_COLUMNS: &str =
      60d14de99524e374a5dc44361c89d40f864ebd63756e05254cbf2360ef2759b0
 ";
 
-/// `books.csv` with a line behind its row that is no row.
+/// `books.csv` with a line after its row that is no row.
 pub(super) const NO_ROW: &str =
     "book,kind,opened,closed,why,tariffs,events,packets,bytes,units,amount,sha256
 1,lengths,2026-01-31T23:59:59Z,2026-01-31T23:59:59Z,cut,1/0/1 48/16/2,13,1,18,18,18,\

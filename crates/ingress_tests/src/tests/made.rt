@@ -36,7 +36,7 @@ pub(super) fn reader<R: TellingReader + Drop>(
         .expect(rt, "a reader")
 }
 
-/// Bytes that come one a read. In place of the byte at a place a read fails, and before each it may be interrupted.
+/// Bytes that come one a read. A read fails in place of the byte at a place, and may be interrupted before each.
 pub(super) fn bytewise<'a>(
     rt: &impl Abort,
     alloc: Global,

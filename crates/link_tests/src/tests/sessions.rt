@@ -30,8 +30,8 @@ const TWO_SHARES: &str = "\
     tickets 2 = 666; stride 2 = 1650918360; turn 65535 = wrote 2 1 13 whole; place 2 = 1657904668; \
     pass = 13972616; tickets 1 = 1000; place 1 = 1108831361";
 
-/// A frame of which the writer accepts five bytes and is interrupted, which changes nothing, and then accepts the rest.
-/// And one of which it accepts five bytes and fails.
+/// Two frames. The first is one of which the writer accepts five bytes and is interrupted, which changes nothing, and
+/// then accepts the rest. The other frame is one of which it accepts five bytes and fails.
 const INTERRUPTED: &str = "\
     open a 4 1 = flow 1; mktkt 10 base = ticket 1; fund 1 flow a = ok; send a 6869 = packet 1 1; \
     turn 65535 = wrote 1 1 5 part; events = 5; account 1 = 0; packets 1 = 1; place 1 = 109951162777; clock = 0; \

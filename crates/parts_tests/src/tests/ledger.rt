@@ -18,7 +18,7 @@ type Table = (&'static str, &'static str, &'static str);
 /// The answer to a call: a number, or nothing, or the refusal.
 type Answer = Result<Option<u64>, Refusal>;
 
-/// 100 of `base` back x, of which 3 back y and 4 fund a. Of y 1 funds each of b and c.
+/// 100 of `base` back x, of which 3 back y and 4 fund a. 1 of y funds each of b and c.
 const THREE_DEEP: &str =
     "mkcur x; mkcur y; open a = 1; open b = 2; open c = 3; mktkt 100 base = 1; fund 1 cur x;
     mktkt 3 x = 2; fund 2 cur y; mktkt 4 x = 3; fund 3 flow a; mktkt 1 y = 4; fund 4 flow b; mktkt 1 y = 5;
@@ -240,8 +240,8 @@ fn number_of(flow: Option<FlowNo>) -> Option<u64> {
     }
 }
 
-// The number or the tickets of the flow at a place, or its number if it is active. Or the tickets that each of that
-// many first flows has.
+// The number or the tickets of the flow at a place, or its number if it is active. Another answer is the tickets that
+// each of that many first flows has.
 fn read_place(ledger: &Ledger, verb: &str, first: u64) -> Answer {
     let place = usize::try_from(first).unwrap_or(usize::MAX);
     match verb {

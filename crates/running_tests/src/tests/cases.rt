@@ -1,5 +1,5 @@
 //! Worked sessions of running links, served and settled: the answers if something is missing or unsent, and if all is
-//! there. Also whole runs, with workers and clerks in threads of their own.
+//! there. Whole runs follow, with workers and clerks in threads of their own.
 ghost use Rattle.std.specs.Prelude.{◌≡◌};
 ghost use Rattle.share_journal.specs.Records.{AcceptedNothing};
 

@@ -172,9 +172,9 @@ const BLOCKED: Taken = Taken::Error(ErrorKind::WouldBlock);
 
 const INTERRUPTED: Taken = Taken::Error(ErrorKind::Interrupted);
 
-/// Answers of write calls in turn, whether files can be renamed, whether the audit is reported as written. Then the
-/// content of a file that is written in place, which is not renamed. The rest after a refused call is offered once more
-/// when the file is closed, so a call that stays refused is refused twice.
+/// Answers of write calls in turn, whether files can be renamed, whether the audit is reported as written. Then comes
+/// the content of a file that is written in place, which is not renamed. The rest after a refused call is offered once
+/// more when the file is closed, so a call that stays refused is refused twice.
 type Row = (&'static [Taken], bool, bool, &'static str);
 
 /// The outcome of the audit of an empty journal, which goes out in one call.

@@ -22,8 +22,8 @@ use std::test::Fail;
 /// A life that is not spent.
 const LIFE: u64 = 100;
 
-/// The bytes of a connection, with a bar after what one read gives, and two bars if a read is interrupted. Then what is
-/// written, with a bar after what one write call takes, and the number of commands made.
+/// The bytes of a connection, with a bar after what one read gives, and two bars if a read is interrupted. Then come
+/// what is written, with a bar after what one write call takes, and the number of commands made.
 const CONVERSATIONS: [(&[u8], &[u8], usize); 12] = [
     (b"", b"", 0),
     (b"nonsense\n", b"no 3 Syntax\n|", 0),

@@ -44,7 +44,7 @@ impl<S: Rates> Book<S> {
 
     /// Amends a grant, numbered from 1, of a currency or a tenant: its ticket has this amount, and so has the grant of
     /// the plan. Refusals, in order: `Spent`; `NoCurrency` if neither has the name; `NoTicket` if it has fewer grants,
-    /// which are no events. Then `Range` unless the amount is 1 to 2^20, which is one. It takes no memory. The
+    /// which are no events. Last is `Range` unless the amount is 1 to 2^20, which is one. It takes no memory. The
     /// condition: the text has room for a line.
     pub fn amend(&mut self, name: Name, number: u64, amount: u64) -> Reply
         requires { lacks_text self.old.audited ≡ false }

@@ -35,7 +35,7 @@ pub enum WhyUnsettled {
 }
 
 /// A settled link. It has its recorder, and the number of offers taken of each worker, in the order of the workers.
-/// Then the numbers of the journal's arrivals, refused ones too, and of its commands.
+/// Then come the numbers of the journal's arrivals, refused ones too, and of its commands.
 #[derive(Drop)]
 pub struct Settled<W: TellingWriter, S: Rates> {
     pub recorder: Recorder<W, S>,

@@ -11,8 +11,8 @@ use Rattle.share_model.specs.link.Calls.{Steps, CommandCall, TurnCall, TearCall}
 use Rattle.share_model.specs.link.Fields.{IsBody}
 use Rattle.share_model.specs.link.View.{LinkView}
 
--- a call: a command and its reply; the flow's name and the payload of a packet, and the reply. Or the most bytes that a
--- turn offers, and its result; or the result of a declared fault
+-- a call: a command and its reply; the flow's name and the payload of a packet, and the reply. Or it is the most bytes
+-- that a turn offers, and its result; or the result of a declared fault
 pub data Call : Type 0 where
   OfCommand : Command → Reply → Call
   OfArrival : NameBytes → List ℕ → Reply → Call

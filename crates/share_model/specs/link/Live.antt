@@ -18,8 +18,8 @@ use Rattle.share_model.specs.funding.Graph.{NameBytes, Graph, empty_graph, ticke
 -- The state
 
 -- the contents of a link. They are the version of its frames, which no event changes, the funding, and the queue, of
--- which each open flow is a client. Then the buffers and the books of the open flows, in order of opening. Last the
--- frame in part, the open flow whose head packet was torn, whether the link is broken, and the counts
+-- which each open flow is a client. Then come the buffers and the books of the open flows, in order of opening. Last
+-- come the frame in part, the open flow whose head packet was torn, whether the link is broken, and the counts
 pub record Live : Type 0 where
   pub version : Version
   pub graph : Graph

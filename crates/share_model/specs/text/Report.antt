@@ -81,7 +81,7 @@ standing_of false true = In
 standing_of false false = Out
 
 -- the line of an open flow in the report. It has the tickets of this moment, not those with which it competed last.
--- Then its pass if it competes, otherwise its remain
+-- Then comes its pass if it competes, otherwise its remain
 abbrev pub flow_shown : Live → NameBytes × OpenFlow → FlowLine
 flow_shown l e =
     let f = e.1.number in

@@ -4,8 +4,8 @@ use crate::tests::assertions::same;
 use share_messages::{Decision, Kind, Messages};
 use std::process::Abort;
 
-/// Lines of a kind that come in a second: the number that come, and the number of these that are printed. Then the
-/// number that the first of them says were left out before it.
+/// Lines of a kind that come in a second: the number that come, and the number of these that are printed. Then comes
+/// the number that the first of them says were left out before it.
 type Burst = (Kind, u64, u32, u32, u64);
 
 // Sends the lines of a burst, and compares what becomes of each.

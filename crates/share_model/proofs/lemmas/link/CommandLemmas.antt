@@ -56,8 +56,8 @@ open-resumed l name allowed =
     named_number l.graph name (flow_named l.graph name) refl
     (not-refused (not (is_some (flow_named l.graph name))) NoFlow _ allowed).0
 
--- a fact that holds after each change of the funding, opening, closing, hold and end of a hold holds after a command
--- that is not refused
+-- a fact that holds after each change of the funding, opening, closing, hold and end of one holds after a command that
+-- is not refused
 pub allowed-cases : (P : Live → Type 0) (rates : List Rate) (l : Live) (c : Command)
     → command_refusal rates l c ≡ None → ((g : Graph) → IsFunded l.graph g → P (with_graph l g))
     → ((name : NameBytes) (limit tariff : ℕ) → open_flow_refusal rates l name limit tariff ≡ None

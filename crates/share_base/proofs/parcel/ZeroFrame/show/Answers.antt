@@ -3,7 +3,7 @@ use Rattle.std.proofs.lemmas.List.{length-drop, length-replicate}
 use Rattle.share_base.proofs.BodyLemmas.{payload_is, shown}
 use Rattle.share_base.proofs.parcel.ZeroFrame.show.Goals as goal
 
--- a frame with that many zeros behind the room has the room
+-- a frame with that many zeros after the room has the room
 has_room : (bytes : List ℕ) → drop 17 bytes ≡ replicate 9000 0 → 17 ≤ length bytes
 has_room bytes zeros =
     let behind : length (drop 17 bytes) ≡ 9000 = ap length zeros ∙ length-replicate {A = ℕ} 9000 0 in

@@ -3,8 +3,9 @@
 
     tools/tests/readmes.py [CRATE...]
 
-All examples, or those of these crates, are put into one scratch crate over copies of the crates that they use. `rt try`
-runs it, and proves nothing.
+All examples, or those of these crates, are put into one scratch crate over copies of the crates that they use. An example
+that starts threads or waits is a crate of its own, since only the runtime of a `main` does so. `rt try` runs them, and
+proves nothing.
 """
 import os
 import re
@@ -22,6 +23,9 @@ LIMIT = 1800
 # The scratch crate, and what is printed before the example of each crate.
 SCRATCH = "readmes"
 MARK = "== "
+
+# The crates whose examples start threads or wait.
+WITH_OWN_MAIN = ("share_control", "share_server", "share_writer")
 
 
 def listed():
@@ -85,7 +89,16 @@ def make_scratch(folder, examples):
     rows = ["%s: %s" % (crate, " ".join(crates[crate])) for crate in used]
     rows.append("%s: %s" % (SCRATCH, " ".join(sorted(named))))
     write(os.path.join(folder, "crates.txt"), "\n".join(rows) + "\n")
-    source = os.path.join(folder, "crates", SCRATCH, "src")
+    write_sources(os.path.join(folder, "crates", SCRATCH, "src"), examples)
+    return os.path.join(folder, "crates", SCRATCH)
+
+
+def write_sources(source, examples):
+    """Writes the sources of the scratch crate. Its main runs each example, or is the only one."""
+    only = next(iter(examples))
+    if only in WITH_OWN_MAIN:
+        write(os.path.join(source, "main.rt"), "//! An example.\n#![tactic(auto)]\n\n" + examples[only][0])
+        return
     for crate, (text, _) in examples.items():
         write(os.path.join(source, crate + "_example.rt"),
               "//! An example.\n\n" + text.replace("fn main(rt: HostRuntime)", "pub fn example(rt: &HostRuntime)"))
@@ -94,18 +107,26 @@ def make_scratch(folder, examples):
     modules = "".join("mod %s_example;\n" % crate for crate in sorted(examples))
     write(os.path.join(source, "main.rt"), "//! The examples.\n#![tactic(auto)]\n\n%s\nuse anyhow::Result;\n\n"
           "fn main(rt: HostRuntime) -> Result<()> {\n%s    Ok(())\n}\n" % (modules, calls))
-    return os.path.join(folder, "crates", SCRATCH)
 
 
-def printed_by(examples):
-    """The output of each example."""
+def output_of(examples):
+    """All that the scratch crate of these examples prints."""
     with tempfile.TemporaryDirectory() as folder:
         done = subprocess.run(["rt", "try"], cwd=make_scratch(folder, examples),
                               stdout=subprocess.PIPE, stderr=subprocess.PIPE, text=True, timeout=LIMIT, check=False)
     if done.returncode:
-        sys.exit(done.stdout + done.stderr + "the examples do not run")
-    parts = re.split("^" + MARK, done.stdout, flags=re.MULTILINE)[1:]
-    return dict(part.split("\n", 1) for part in parts)
+        sys.exit(done.stdout + done.stderr + "the examples do not run: " + ", ".join(examples))
+    return done.stdout
+
+
+def printed_by(examples):
+    """The output of each example."""
+    printed = {name: output_of({name: found}) for name, found in examples.items() if name in WITH_OWN_MAIN}
+    others = {name: found for name, found in examples.items() if name not in WITH_OWN_MAIN}
+    if others:
+        parts = re.split("^" + MARK, output_of(others), flags=re.MULTILINE)[1:]
+        printed.update(part.split("\n", 1) for part in parts)
+    return printed
 
 
 def main():

@@ -1,4 +1,4 @@
-//! Tests of share_config and share_check, over their public calls.
+//! Tests of the files of a gateway, over the public calls of share_config, share_check, share_reload and share_loading.
 #![tactic(auto)]
 
 #[cfg(test)]

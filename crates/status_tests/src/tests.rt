@@ -1,8 +1,11 @@
-//! Lines on standard error, and the line of a status.
+//! Lines on standard error, the line of a status, and answers to a browser and to a scrape of metrics.
 
+mod answers;
 mod assertions;
+mod heads;
 mod limits;
 mod lines;
+mod metrics;
 mod recorder;
 mod said;
 mod status;

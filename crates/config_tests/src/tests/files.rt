@@ -2,25 +2,14 @@
 
 use super::assertions::{holds, same};
 use super::rows::{EXAMPLE, FILE, Row, SHAPES, SMALL, TWICE, VALUES, WEB};
+use super::settings::changed;
 use share_base::Name;
 use share_config::{ConfigFault, read_settings};
 use share_gateway::{Grant, Tenant};
 use share_settings::{BookText, Listener, Peer, Port, Settings};
-use std::alloc::{AllocError, Global};
+use std::alloc::Global;
 use std::net::SocketAddr;
 use std::process::Abort;
-
-// The file with one text changed.
-fn changed(alloc: Global, row: Row) -> Result<String, AllocError> {
-    let (before, after) = match FILE.split_once(row.old) {
-        None => (FILE, ""),
-        Some((before, after)) => (before, after),
-    };
-    let mut text = String::from_str(alloc, before)?;
-    text.push_str(row.new)?;
-    text.push_str(after)?;
-    Ok(text)
-}
 
 // The fault of the changed file is the row's.
 fn has_fault(rt: &impl Abort, alloc: Global, row: Row, fault: &ConfigFault) {
@@ -32,7 +21,7 @@ fn has_fault(rt: &impl Abort, alloc: Global, row: Row, fault: &ConfigFault) {
 
 fn is_refused(rt: &impl Abort, alloc: Global, row: Row) {
     holds(rt, row, FILE.contains(row.old));
-    let text = changed(alloc, row).expect(rt, "memory");
+    let text = changed(alloc, FILE, row.old, row.new).expect(rt, "memory");
     match read_settings(alloc, text.as_str()) {
         Err(fault) => has_fault(rt, alloc, row, &fault),
         Ok(_) => holds(rt, row, false),

@@ -1,8 +1,8 @@
 //! Files that are loaded, from their bytes and from a disk.
 
 use super::assertions::{holds, same};
-use super::files::changed;
-use super::rows::{FAR, FILE};
+use super::changes::{FAR, FILE};
+use super::settings::changed;
 use share_loading::{Refused, load_settings, read_file};
 use share_settings::Settings;
 use std::alloc::Global;

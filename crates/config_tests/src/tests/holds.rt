@@ -1,7 +1,7 @@
 //! Holds by control lines, over plans that are read again.
 
 use super::assertions::same;
-use super::files::{TenantRow, plan_of};
+use super::settings::{TenantRow, plan_of};
 use share_base::Name;
 use share_gateway::Plan;
 use share_reload::ControlHolds;

@@ -1,6 +1,7 @@
 //! Connections that follow one another.
 
-use super::takers::{Taker, back, frame, front, same};
+use super::assertions::same;
+use super::takers::{Taker, back, frame, front};
 use mio::net::UnixStream;
 use share_downlink::{ClosedWhy, Downlink, MAX_WAITING};
 use share_gateway::Field;
@@ -44,23 +45,49 @@ fn closed(downlink: &mut Downlink) -> Option<(usize, ClosedWhy)> {
     Some((closed.token, closed.why))
 }
 
+// A connection gives a first packet.
+fn begins<R: Net + Abort>(
+    rt: &R,
+    alloc: Global,
+    downlink: &mut Downlink,
+    taker: &mut Taker,
+) -> Result<UnixStream, Fail> {
+    same(rt, "no connection", downlink.is_up(), false);
+    let mut old = connect(rt, alloc, downlink, 1)?;
+    old.write_all(frame(alloc, 1, 1, b"a")?.as_slice())?;
+    take(downlink, taker);
+    let wanted = [(1, b'a', 1)];
+    same(rt, "a packet", taker.packets.as_slice(), wanted.as_slice());
+    same(rt, "a connection", downlink.is_up(), true);
+    Ok(old)
+}
+
+// Bytes that are no frame end the connection, and are in no count.
+fn ends_badly(
+    rt: &impl Abort,
+    downlink: &mut Downlink,
+    taker: &mut Taker,
+    connection: &mut UnixStream,
+) -> Result<(), Fail> {
+    connection.write_all(b"LL")?;
+    take(downlink, taker);
+    let bad = ClosedWhy::BadFrame {
+        offset: 19,
+        field: Field::Version,
+    };
+    same(rt, "a bad frame", closed(downlink), Some((2, bad)));
+    let counts = downlink.counts();
+    let counted = (counts.frames, counts.bytes, counts.strangers);
+    same(rt, "counts", counted, (3, 18 + 20 + 19, 1));
+    Ok(())
+}
+
 #[test]
 fn a_newer_connection_waits_for_its_first_frame(rt: HostRuntime) -> Result<(), Fail> {
     let alloc: Global = rt.alloc();
     let mut taker = Taker::new(alloc);
     let mut downlink = Downlink::new(alloc).expect(&rt, "memory");
-    same(&rt, "no connection", downlink.is_up(), false);
-    let mut old = connect(&rt, alloc, &mut downlink, 1)?;
-    old.write_all(frame(alloc, 1, 1, b"a")?.as_slice())?;
-    take(&mut downlink, &mut taker);
-    same(
-        &rt,
-        "a first packet",
-        taker.packets.as_slice(),
-        [(1, b'a', 1)].as_slice(),
-    );
-    same(&rt, "a connection", downlink.is_up(), true);
-
+    let mut old = begins(&rt, alloc, &mut downlink, &mut taker)?;
     let mut new = connect(&rt, alloc, &mut downlink, 2)?;
     let first = frame(alloc, 3, 1, b"cc")?;
     new.write_all(front(first.as_slice(), 18))?;
@@ -73,30 +100,12 @@ fn a_newer_connection_waits_for_its_first_frame(rt: HostRuntime) -> Result<(), F
     take(&mut downlink, &mut taker);
     old.write_all(frame(alloc, 1, 3, b"late")?.as_slice())?;
     take(&mut downlink, &mut taker);
-    same(
-        &rt,
-        "replaced",
-        closed(&mut downlink),
-        Some((1, ClosedWhy::Replaced)),
-    );
+    let replaced = Some((1, ClosedWhy::Replaced));
+    same(&rt, "replaced", closed(&mut downlink), replaced);
     same(&rt, "no other", closed(&mut downlink), None);
     let wanted = [(1, b'a', 1), (2, b'b', 3), (3, b'c', 2)];
     same(&rt, "packets", taker.packets.as_slice(), wanted.as_slice());
-
-    new.write_all(b"LL")?;
-    take(&mut downlink, &mut taker);
-    let bad = ClosedWhy::BadFrame {
-        offset: 19,
-        field: Field::Version,
-    };
-    same(&rt, "a bad frame", closed(&mut downlink), Some((2, bad)));
-    let counts = downlink.counts();
-    same(
-        &rt,
-        "counts",
-        (counts.frames, counts.bytes, counts.strangers),
-        (3, 18 + 20 + 19, 1),
-    );
+    ends_badly(&rt, &mut downlink, &mut taker, &mut new)?;
     drop((old, new));
     Ok(())
 }

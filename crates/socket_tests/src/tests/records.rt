@@ -1,6 +1,7 @@
 //! Records that a connection is given.
 
-use super::doors::{new_door, same};
+use super::assertions::same;
+use super::doors::new_door;
 use mio::net::UnixStream;
 use share_base::Name;
 use share_doors::{Door, Sender};

@@ -1,10 +1,9 @@
-//! A taker of packets that remembers them, frames, and assertions that name their row.
+//! A taker of packets that remembers them, and frames.
 
 use share_base::FlowNo;
 use share_downlink::Deliver;
 use share_frame::{HEADER2, header2};
 use std::alloc::{AllocError, Global};
-use std::fmt::Debug;
 use std::process::Abort;
 
 /// The greatest flow number that a tenant has.
@@ -56,9 +55,4 @@ pub(super) fn front(bytes: &[u8], count: usize) -> &[u8] {
 /// The bytes after these.
 pub(super) fn back(bytes: &[u8], count: usize) -> &[u8] {
     &bytes[count.min(bytes.len())..]
-}
-
-/// The row's value is the wanted one.
-pub(super) fn same<T: PartialEq + Debug + Drop>(rt: &impl Abort, row: &str, got: T, wanted: T) {
-    assert!(rt; got == wanted, "{row}: {got:?}, wanted {wanted:?}");
 }

@@ -1,8 +1,8 @@
 //! Sections that differ, in each of their values.
 
 use super::assertions::same;
-use super::files::changed_settings;
-use super::rows::{FAR, FILE};
+use super::changes::{FAR, FILE};
+use super::settings::changed_settings;
 use share_config::read_settings;
 use share_reload::{Roster, changed_section, reload_fault};
 use std::alloc::Global;

@@ -230,38 +230,42 @@ fn long_head(
     Ok(bytes)
 }
 
+/// A beginning of a head that is served.
+const START: &str = "GET / HTTP/1.1\r\nHost: 127.0.0.1:9107\r\n";
+
+/// Heads that are too long: a beginning, a text and how often it follows, the end, and the refusal.
+const LONG_HEADS: [(&str, &str, &str, usize, &str, Refusal); 5] = [
+    ("target", "GET /", "a", 9000, "", Refusal::UriTooLong),
+    ("a field", START, "a", 9000, "", Refusal::HeadTooLarge),
+    (
+        "bytes",
+        START,
+        "a: bcdefg\r\n",
+        800,
+        "\r\n",
+        Refusal::HeadTooLarge,
+    ),
+    (
+        "fields",
+        START,
+        "a: b\r\n",
+        64,
+        "\r\n",
+        Refusal::HeadTooLarge,
+    ),
+    (
+        "no fields",
+        START,
+        "a: b\r\n",
+        64,
+        "no field\r\n\r\n",
+        Refusal::HeadTooLarge,
+    ),
+];
+
 #[test]
 fn long_heads_are_refused(rt: HostRuntime) -> Result<(), Fail> {
-    let start = "GET / HTTP/1.1\r\nHost: 127.0.0.1:9107\r\n";
-    let rows = [
-        ("target", "GET /", "a", 9000, "", Refusal::UriTooLong),
-        ("a field", start, "a", 9000, "", Refusal::HeadTooLarge),
-        (
-            "bytes",
-            start,
-            "a: bcdefg\r\n",
-            800,
-            "\r\n",
-            Refusal::HeadTooLarge,
-        ),
-        (
-            "fields",
-            start,
-            "a: b\r\n",
-            64,
-            "\r\n",
-            Refusal::HeadTooLarge,
-        ),
-        (
-            "no fields",
-            start,
-            "a: b\r\n",
-            64,
-            "no field\r\n\r\n",
-            Refusal::HeadTooLarge,
-        ),
-    ];
-    for (row, first, line, count, last, why) in rows {
+    for (row, first, line, count, last, why) in LONG_HEADS {
         let bytes = long_head(rt.alloc(), first, line, count, last)?;
         let head = head_of(&rt, rt.alloc(), bytes.as_slice(), 16384, b"");
         same(&rt, row, head.is_over(), true);
@@ -273,7 +277,7 @@ fn long_heads_are_refused(rt: HostRuntime) -> Result<(), Fail> {
             Want::Refusal(why),
         );
     }
-    let most = long_head(rt.alloc(), start, "a: b\r\n", 63, "\r\n")?;
+    let most = long_head(rt.alloc(), START, "a: b\r\n", 63, "\r\n")?;
     same(
         &rt,
         "64 fields",

@@ -1,7 +1,7 @@
 //! Plans one after the other, whose names keep their numbers.
 
 use super::assertions::same;
-use super::files::{TenantRow, plan_of};
+use super::settings::{TenantRow, plan_of};
 use share_reload::{NotAdmitted, Roster};
 use std::alloc::Global;
 use std::process::Abort;

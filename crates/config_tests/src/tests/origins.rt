@@ -1,8 +1,8 @@
 //! Ports of a file that is read again, and where each was before.
 
 use super::assertions::same;
-use super::files::changed_settings;
-use super::rows::PORTS;
+use super::changes::PORTS;
+use super::settings::changed_settings;
 use share_config::read_settings;
 use share_reload::{PortOrigin, port_origin};
 use share_settings::{Settings, TenantPorts};

@@ -89,51 +89,53 @@ fn refused(rt: &impl Abort, alloc: Global, why: Refusal, reason: &str, end: &str
     );
 }
 
+/// Refusals, the status and reason of each, and the end of its answer after the fields that all have.
+const REFUSALS: [(Refusal, &str, &str); 8] = [
+    (
+        Refusal::BadRequest,
+        "400 Bad Request",
+        "\r\nContent-Type: text/plain\r\nContent-Length: 15\r\n\r\n400 Bad Request",
+    ),
+    (
+        Refusal::NotFound,
+        "404 Not Found",
+        "\r\nContent-Type: text/plain\r\nContent-Length: 13\r\n\r\n404 Not Found",
+    ),
+    (
+        Refusal::MethodNotAllowed,
+        "405 Method Not Allowed",
+        "\r\nAllow: GET, HEAD\r\nContent-Length: 22\r\n\r\n405 Method Not Allowed",
+    ),
+    (
+        Refusal::UriTooLong,
+        "414 URI Too Long",
+        "\r\nContent-Length: 16\r\n\r\n414 URI Too Long",
+    ),
+    (
+        Refusal::MisdirectedRequest,
+        "421 Misdirected Request",
+        "\r\nContent-Length: 23\r\n\r\n421 Misdirected Request",
+    ),
+    (
+        Refusal::HeadTooLarge,
+        "431 Request Header Fields Too Large",
+        "\r\nContent-Length: 35\r\n\r\n431 Request Header Fields Too Large",
+    ),
+    (
+        Refusal::Unavailable,
+        "503 Service Unavailable",
+        "\r\nRetry-After: 1\r\nContent-Length: 23\r\n\r\n503 Service Unavailable",
+    ),
+    (
+        Refusal::VersionNotSupported,
+        "505 HTTP Version Not Supported",
+        "\r\nContent-Length: 30\r\n\r\n505 HTTP Version Not Supported",
+    ),
+];
+
 #[test]
 fn refusals_have_their_reasons(rt: HostRuntime) -> Result<(), Fail> {
-    let rows = [
-        (
-            Refusal::BadRequest,
-            "400 Bad Request",
-            "\r\nContent-Type: text/plain\r\nContent-Length: 15\r\n\r\n400 Bad Request",
-        ),
-        (
-            Refusal::NotFound,
-            "404 Not Found",
-            "\r\nContent-Type: text/plain\r\nContent-Length: 13\r\n\r\n404 Not Found",
-        ),
-        (
-            Refusal::MethodNotAllowed,
-            "405 Method Not Allowed",
-            "\r\nAllow: GET, HEAD\r\nContent-Length: 22\r\n\r\n405 Method Not Allowed",
-        ),
-        (
-            Refusal::UriTooLong,
-            "414 URI Too Long",
-            "\r\nContent-Length: 16\r\n\r\n414 URI Too Long",
-        ),
-        (
-            Refusal::MisdirectedRequest,
-            "421 Misdirected Request",
-            "\r\nContent-Length: 23\r\n\r\n421 Misdirected Request",
-        ),
-        (
-            Refusal::HeadTooLarge,
-            "431 Request Header Fields Too Large",
-            "\r\nContent-Length: 35\r\n\r\n431 Request Header Fields Too Large",
-        ),
-        (
-            Refusal::Unavailable,
-            "503 Service Unavailable",
-            "\r\nRetry-After: 1\r\nContent-Length: 23\r\n\r\n503 Service Unavailable",
-        ),
-        (
-            Refusal::VersionNotSupported,
-            "505 HTTP Version Not Supported",
-            "\r\nContent-Length: 30\r\n\r\n505 HTTP Version Not Supported",
-        ),
-    ];
-    for (why, reason, end) in rows {
+    for (why, reason, end) in REFUSALS {
         refused(&rt, rt.alloc(), why, reason, end);
     }
     Ok(())

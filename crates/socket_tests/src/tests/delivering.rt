@@ -1,6 +1,7 @@
 //! Packets that go out by packet ports.
 
-use super::doors::{new_door, same};
+use super::assertions::same;
+use super::doors::new_door;
 use mio::net::UnixStream;
 use mio::{Events, Poll, Token};
 use share_doors::{Door, PacketPort};
@@ -48,6 +49,40 @@ fn received(socket: &UdpSocket, buffer: &mut [u8; 64]) -> usize {
     }
 }
 
+// Adds a port that is bound, and returns a socket that sent the last packet to it.
+fn bind<R: Net + Abort>(
+    rt: &R,
+    alloc: Global,
+    poll: &mut Poll,
+    door: &mut Door,
+) -> Result<UdpSocket, Fail> {
+    let bound = PacketSocket::bind(rt, poll.registry(), Token(1), any_port())?;
+    let address = bound.local_address()?.ok_or("an address")?;
+    let key = add(rt, alloc, door, bound);
+    door.deliver(b"too early");
+    same(rt, "lost without a sender", door.lost(), 2);
+    let sender = patient(rt)?;
+    sender.send_to(b"hello", address)?;
+    wait(poll, alloc)?;
+    door.note_port(key);
+    let _ = door.discard();
+    same(rt, "dropped", door.dropped(), 1);
+    Ok(sender)
+}
+
+// Adds a port that is connected, and returns its peer.
+fn connect<R: Net + Abort>(
+    rt: &R,
+    alloc: Global,
+    poll: &Poll,
+    door: &mut Door,
+) -> Result<UdpSocket, Fail> {
+    let peer = patient(rt)?;
+    let connected = PacketSocket::connect(rt, poll.registry(), Token(2), peer.local_addr()?)?;
+    add(rt, alloc, door, connected);
+    Ok(peer)
+}
+
 #[test]
 fn packets_go_out_by_each_port(rt: HostRuntime) -> Result<(), Fail> {
     let alloc = rt.alloc();
@@ -56,36 +91,17 @@ fn packets_go_out_by_each_port(rt: HostRuntime) -> Result<(), Fail> {
     let mut door = new_door(&rt, alloc);
     door.deliver(b"nobody");
     same(&rt, "lost without a port", door.lost(), 1);
-
-    let bound = PacketSocket::bind(&rt, poll.registry(), Token(1), any_port())?;
-    let address = bound.local_address()?.ok_or("an address")?;
-    let key = add(&rt, alloc, &mut door, bound);
-    door.deliver(b"too early");
-    same(&rt, "lost without a sender", door.lost(), 2);
-    let sender = patient(&rt)?;
-    sender.send_to(b"hello", address)?;
-    wait(&mut poll, alloc)?;
-    door.note_port(key);
-    let _ = door.discard();
-    same(&rt, "dropped", door.dropped(), 1);
+    let sender = bind(&rt, alloc, &mut poll, &mut door)?;
     door.deliver(b"first");
     same(&rt, "to the sender", received(&sender, &mut buffer), 5);
 
-    let peer = patient(&rt)?;
-    let connected = PacketSocket::connect(&rt, poll.registry(), Token(2), peer.local_addr()?)?;
-    add(&rt, alloc, &mut door, connected);
-    let (near, far) = UnixStream::pair(&rt)?;
+    let peer = connect(&rt, alloc, &poll, &mut door)?;
+    let (near, mut far) = UnixStream::pair(&rt)?;
     let device = PacketSocket::open(near.as_raw_fd(), poll.registry(), Token(3))?;
     add(&rt, alloc, &mut door, device);
     door.deliver(b"second one");
-    same(
-        &rt,
-        "to the sender again",
-        received(&sender, &mut buffer),
-        10,
-    );
+    same(&rt, "once more", received(&sender, &mut buffer), 10);
     same(&rt, "to the peer", received(&peer, &mut buffer), 10);
-    let mut far = far;
     same(&rt, "to the descriptor", far.read(&mut buffer)?, 10);
     same(&rt, "lost", door.lost(), 2);
 

@@ -1,6 +1,7 @@
 //! Frames that come as datagrams.
 
-use super::takers::{Taker, back, frame, front, same};
+use super::assertions::same;
+use super::takers::{Taker, back, frame, front};
 use mio::net::UdpSocket;
 use mio::{Poll, Token};
 use share_downlink::{Datagrams, takes_address};

@@ -1,7 +1,7 @@
 //! Files of a gateway, made from texts.
 
 use super::assertions::holds;
-use super::rows::SECTIONS;
+use super::changes::SECTIONS;
 use share_config::read_settings;
 use share_gateway::Plan;
 use share_settings::Settings;

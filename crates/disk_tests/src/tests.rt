@@ -1,5 +1,0 @@
-//! Tests of share_disk.
-
-mod books;
-mod folders;
-mod recoveries;

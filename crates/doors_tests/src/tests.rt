@@ -1,5 +1,0 @@
-//! Tests of the doors of tenants.
-
-mod delivering;
-mod doors;
-mod records;

@@ -50,21 +50,24 @@ fn compare(rt: &impl Abort, alloc: Global, row: &str, status: &Status<'_>, wante
     same(rt, row, str::from_utf8(line.as_slice()).ok(), Some(wanted));
 }
 
-fn grant(rt: &impl Abort, amount: u64, of: &str) -> Grant {
-    Grant {
-        amount,
-        denomination: name_of(rt, of),
-    }
-}
-
-// A tenant that sends.
-fn acme<'a>(rt: &impl Abort, grants: &'a [Grant]) -> TenantStatus<'a> {
-    TenantStatus {
-        name: name_of(rt, "acme"),
+#[test]
+fn whole_status_is_spelled(rt: HostRuntime) -> Result<(), Fail> {
+    let grants = [
+        Grant {
+            amount: 200,
+            denomination: name_of(&rt, "gold"),
+        },
+        Grant {
+            amount: 50,
+            denomination: name_of(&rt, "base"),
+        },
+    ];
+    let acme = TenantStatus {
+        name: name_of(&rt, "acme"),
         flow: 1,
         held: false,
         tickets: 250,
-        grants,
+        grants: &grants,
         waiting: 3,
         limit: 256,
         taken_packets: 13,
@@ -75,13 +78,9 @@ fn acme<'a>(rt: &impl Abort, grants: &'a [Grant]) -> TenantStatus<'a> {
         connections: 2,
         dropped: 4,
         lost: 5,
-    }
-}
-
-// A tenant that is held, whose numbers are the least and the greatest.
-fn other(rt: &impl Abort) -> TenantStatus<'static> {
-    TenantStatus {
-        name: name_of(rt, "b-2_x"),
+    };
+    let other = TenantStatus {
+        name: name_of(&rt, "b-2_x"),
         flow: 1024,
         held: true,
         tickets: 0,
@@ -96,13 +95,8 @@ fn other(rt: &impl Abort) -> TenantStatus<'static> {
         connections: 0,
         dropped: 0,
         lost: 18446744073709551615,
-    }
-}
-
-#[test]
-fn whole_status_is_spelled(rt: HostRuntime) -> Result<(), Fail> {
-    let grants = [grant(&rt, 200, "gold"), grant(&rt, 50, "base")];
-    let tenants = [acme(&rt, &grants), other(&rt)];
+    };
+    let tenants = [acme, other];
     let status = Status {
         version: "1.2.3",
         proved: "rattle 0.9",

@@ -1,5 +1,5 @@
-//! Worked rows of books on disk: what is read and written, which steps a close and a recovery make, and folders of books
-//! in which they make them.
+//! Worked rows of books on disk: what is read and written, and which steps a close and a recovery make. Folders of
+//! books, in which they make them.
 
 mod assertions;
 mod books;

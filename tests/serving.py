@@ -185,6 +185,7 @@ class Peer:
         self.listener.listen(1)
         self.listener.settimeout(PATIENCE)
         self.address = "%s:%d" % self.listener.getsockname()
+        self.accepted = threading.Event()
         self.go_on = threading.Event()
         self.thread = threading.Thread(target=self.run, daemon=True)
         self.thread.start()
@@ -192,6 +193,7 @@ class Peer:
     def run(self):
         try:
             self.connection = self.listener.accept()[0]
+            self.accepted.set()
             if self.behave:
                 self.behave(self)
             while self.connection.fileno() >= 0 and self.read(1 << 18):
@@ -203,7 +205,8 @@ class Peer:
                 self.connection.close()
 
     def read(self, most):
-        """Reads some bytes; none at the end."""
+        """Reads some bytes; none at the end. A server may have sent some before its connection is accepted here."""
+        expect(self.accepted.wait(PATIENCE), "no connection comes to the peer")
         data = self.connection.recv(most)
         self.got += data
         return len(data)

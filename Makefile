@@ -54,7 +54,7 @@ demo:
 	@examples/demo.py
 
 check:
-	@echo 'proving what changed since the last check, then all tests: an hour where nothing is kept' >&2
+	@echo 'proving what changed since the last check, then all tests: an hour if nothing is kept' >&2
 	RT_SECONDS=120 .ci/rt all test
 	$(MAKE) acceptance
 

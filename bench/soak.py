@@ -8,8 +8,8 @@ either part. If nothing moves for a minute, the program ends and prints what it 
 
 *load.* PACKETS packets (1000000 unless set) come through eight ingress connections for eight flows. Their lengths are
 drawn: one in eight from 1 to 9000 bytes, the others from 1 to 1490. All the while eight clerks open a flow each, fund
-it, let other tickets fund it, and close it again, and the peer of the uplink stops reading now and then. What is drawn
-comes from SEED (the time unless set), which is printed; when what comes, no seed decides. The life is reckoned so: a
+it, let other tickets fund it, and close it again, and the peer of the uplink stops reading at times. What is drawn
+comes from SEED (the time unless set), which is printed; no seed decides when each comes. The life is computed so: a
 packet is one event, and so is the write of its frame; a write that takes a part is one more, of which one for every
 four packets are allowed; and the clerks, who keep behind the packets, make one command for each packet at most, and a
 few to begin with. That is 3.25 events a packet and 4096, so the longest life has room for five million packets. It is
@@ -285,7 +285,7 @@ def measure_kept(program):
 # A long load.
 
 class SlowPeer(threading.Thread):
-    """Reads the uplink to its end into a file, and stops now and then."""
+    """Reads the uplink to its end into a file, and stops at times."""
 
     def __init__(self, connection, path):
         super().__init__(daemon=True)

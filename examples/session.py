@@ -23,7 +23,7 @@ ACME_ACCOUNT = "44"
 
 
 def told(server):
-    """Prints what the server told on standard error."""
+    """Prints what the server printed on standard error."""
     for line in server.text("stderr").splitlines():
         print("server   " + line)
 

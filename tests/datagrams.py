@@ -207,11 +207,18 @@ def kernel_keeps(run):
     gateway = started(run, far, {"a": Tenant([1], ports=[free_address()])})
     sender = udp_socket(run, gateway.tenants["a"].ports[0])
     number = 0
-    while gateway.tenant("a")["waiting"] < LIMIT_OF_PACKETS:
-        for _ in range(AHEAD):
-            sender.send(packet(number, 1000))
-            number += 1
-    full = wait_for(lambda: stands_still(gateway), "a gateway that takes nothing")
+
+    def is_full():
+        """Sends packets while there is room. How many are taken, if there is none for a while."""
+        nonlocal number
+        while gateway.tenant("a")["waiting"] < LIMIT_OF_PACKETS:
+            for _ in range(AHEAD):
+                sender.send(packet(number, 1000))
+                number += 1
+        taken = stands_still(gateway)
+        return taken if gateway.tenant("a")["waiting"] == LIMIT_OF_PACKETS else None
+
+    full = wait_for(is_full, "a gateway that takes nothing")
     for _ in range(FEWEST):
         sender.send(packet(number, 1000))
         number += 1

@@ -390,7 +390,7 @@ class Link:
         return "ok"
 
     def backed_by(self):
-        """Of each currency those that it backs."""
+        """The currencies that each currency backs."""
         backed = defaultdict(set)
         for ticket in self.tickets.values():
             if ticket.holder and ticket.holder[0] == "cur":
@@ -810,7 +810,7 @@ class Drawer:
         return self.random.random() < share
 
     def pick(self, usual, unusual=()):
-        """One of the usual values, or now and then of the unusual ones."""
+        """One of the usual values, or at times one of the unusual ones."""
         return self.random.choice(unusual if not usual or unusual and self.happens(self.doubt) else usual)
 
     def give(self, line):
@@ -870,7 +870,7 @@ class Drawer:
         self.give("close %s" % self.flow())
 
     def hold(self):
-        """A flow is held, now and then the one whose frame is sent, or one that is closed and opened again then."""
+        """A flow is held, at times the one whose frame is sent, or one that is closed and opened again then."""
         sent = self.link.part or self.link.queue.next()
         name = sent.name if sent and self.happens(0.4) else self.flow()
         self.give("hold %s" % name)

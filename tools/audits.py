@@ -14,7 +14,7 @@ BUILT = os.path.join(os.path.dirname(os.path.dirname(os.path.realpath(__file__))
 # The tool that runs, as it was called: bill, or stridelink-bill if it is installed.
 NAME = os.path.basename(sys.argv[0])
 
-# That of the variable STRIDELINK, or else the one that was built here, or else the one that is installed.
+# The program of the variable STRIDELINK, or the one that was built here, or the one that is installed, in this order.
 PROGRAM = os.environ.get("STRIDELINK") or (BUILT if os.path.exists(BUILT) else "stridelink")
 
 # The longest life of a link. The audit of a shorter one is answered the same.

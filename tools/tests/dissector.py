@@ -89,7 +89,7 @@ def tshark(run, connections, *words):
 
 
 def dissected(run, connections, *words):
-    """Of each connection the frames (flow, sequence number, payload, tariff) that tshark shows, and the places of bad
+    """The frames of each connection (flow, sequence number, payload, tariff) that tshark shows, and the places of bad
     fields, each with the number of the segment that shows it."""
     fields = [word for name in ("tcp.srcport", *("stridelink." + name for name in FIELDS)) for word in ("-e", name)]
     found, segments = [([], []) for _ in connections], [0] * len(connections)
@@ -172,7 +172,7 @@ def both_versions(run):
 
 def no_frame(run):
     """Bytes that are not a frame are marked with the place of the field that no frame has: with a frame in front of it,
-    with one behind it, and one byte a segment, as soon as it is known."""
+    with one after it, and one byte a segment, as soon as it is known."""
     cases = []
     for digits, bad in NO_FRAME.items():
         data = bytes.fromhex(digits)

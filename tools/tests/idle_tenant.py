@@ -16,8 +16,8 @@ FUNDING = ("mkcur team", "mktkt 1000 base", "fund 1 cur team", "mktkt 1 team", "
            "open acme 1024 1", "open bond 1024 1", "open cone 1024 1", "fund 2 flow acme", "fund 3 flow bond",
            "fund 4 flow cone")
 
-# Where bond is there, where it is idle, and where it is there again: the clock, and each tenant's part of the units. Of
-# the 1500 tickets that compete all the time, the team has 1000.
+# While bond is there, while it is idle, and while it is there again: the clock, and each tenant's part of the units.
+# The team has 1000 of the 1500 tickets that compete all the time.
 SPANS = ((0, GONE * FRAME), (GONE * FRAME, BACK * FRAME), (BACK * FRAME, FRAMES * FRAME))
 PARTS = {"acme": (2 / 9, 2 / 3, 2 / 9), "bond": (4 / 9, 0, 4 / 9), "cone": (1 / 3, 1 / 3, 1 / 3)}
 

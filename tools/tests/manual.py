@@ -194,7 +194,7 @@ def settings(run):
     text = page(FILE_PAGE)
     keys = source("share_config", "key.rt")
     spelled = dict(re.findall(r'Key::(\w+) => "(\w+)"', keys))
-    tables = re.findall(r"Place::(\w+)[^\n]*? => &\[(.*?)\]", keys, re.DOTALL)
+    tables = re.findall(r"Location::(\w+)[^\n]*? => &\[(.*?)\]", keys, re.DOTALL)
     known = {(place, spelled[key]) for place, names in tables for key in re.findall(r"Key::(\w+)", names)
              if place != "File"}
     titles = {"Uplink": "uplink", "Books": "books", "Control": "control", "Downlink": "downlink", "Web": "web",
@@ -240,7 +240,7 @@ def told(run):
     for path in (("share_served", "setup.rt"), ("share_server", "threads.rt"), ("share_served", "shutdown.rt"),
                  ("share_server", "refused.rt"), ("share_connections", "connections.rt"), ("link", "services.rt")):
         text = source(*path)
-        texts |= set(re.findall(r'format_args!\("(.*?)"\)', text)) | set(re.findall(r'tell\(rt, "(.*?)"\)', text))
+        texts |= set(re.findall(r'format_args!\("(.*?)"\)', text)) | set(re.findall(r'log\(rt, "(.*?)"\)', text))
         texts |= set(re.findall(r'format_args!\(\s*"(.*?)"', text)) | set(re.findall(r'write!\(\s*f,\s*"(.*?)"', text))
         texts |= set(re.findall(r'eprintln!\(rt; "(waiting .*?)"\)', text))
     letters = {"address": "ADDR", "number": "N", "how:?": "HOW", "text": "WHY", "count": "C", "tally": "T",

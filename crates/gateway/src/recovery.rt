@@ -3,7 +3,7 @@
 use crate::faults::NoFolder;
 use share_disk::{Folder, NoRun, RecoveredBook, Recovery};
 use share_messages::{Kind, Messages};
-use share_reactor::Place;
+use share_reactor::FirstBook;
 use std::alloc::Global;
 use std::fmt;
 use std::fmt::{Display, Formatter};
@@ -61,14 +61,14 @@ pub(crate) fn open_books<R: Files<File = File> + Clock + Eprint>(
     alloc: Global,
     path: &str,
     is_quiet: bool,
-) -> Result<Place, NoFolder> {
+) -> Result<FirstBook, NoFolder> {
     let folder = Folder::open(rt, alloc, path)?;
     match folder.recover(rt, alloc) {
         Ok(recovered) => {
             print_books(rt, alloc, recovered.books.as_slice(), is_quiet);
             let number = recovered.next;
             drop(recovered);
-            Ok(Place { folder, number })
+            Ok(FirstBook { folder, number })
         }
         Err(reason) => {
             drop(folder);

@@ -8,7 +8,7 @@ use crate::texts::fail;
 use share_billing::Shown;
 use share_gateway_words::GatewayOrders;
 use share_loading::read_file;
-use share_reactor::{Left, Options, Place, SystemFiles, run};
+use share_reactor::{FirstBook, Left, Options, SystemFiles, run};
 use share_settings::Settings;
 use std::alloc::Global;
 use std::io::{Eprint, Print};
@@ -44,7 +44,7 @@ fn run_in<R>(
     alloc: Global,
     orders: GatewayOrders<'_>,
     settings: Settings,
-    place: Place,
+    first: FirstBook,
 ) -> ExitCode
 where
     R: SystemFiles + Net + Clock + Wait + Threads + Sync + Eprint,
@@ -54,7 +54,7 @@ where
         until_eof: orders.is_until_eof,
         is_quiet: orders.is_quiet,
     };
-    match run(rt, alloc, orders.file, settings, place, options) {
+    match run(rt, alloc, orders.file, settings, first, options) {
         Ok(left) => status_of(left),
         Err(fault) => fail(rt, fault),
     }
@@ -66,7 +66,7 @@ where
     R: SystemFiles + Net + Clock + Wait + Threads + Sync + Eprint,
 {
     match open_books(rt, alloc, settings.books.folder.as_str(), orders.is_quiet) {
-        Ok(place) => run_in(rt, alloc, orders, settings, place),
+        Ok(first) => run_in(rt, alloc, orders, settings, first),
         Err(fault) => {
             let status = refuse_folder(rt, settings.books.folder.as_str(), fault);
             drop(settings);

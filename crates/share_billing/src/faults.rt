@@ -55,9 +55,9 @@ impl<'a> Display for FaultLine<'a> {
 
 /// The line on standard error for a book that ends in a line without its line feed.
 #[derive(Clone, Copy, Debug)]
-pub(crate) struct CutLine<'a> {
-    pub(crate) path: &'a str,
-    pub(crate) number: u64,
+pub struct CutLine<'a> {
+    pub path: &'a str,
+    pub number: u64,
 }
 
 impl<'a> Display for CutLine<'a> {

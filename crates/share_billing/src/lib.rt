@@ -7,5 +7,5 @@ mod faults;
 mod printing;
 
 pub use billing::{Billing, NotShown, print_bill};
-pub use faults::Shown;
+pub use faults::{CutLine, Shown};
 pub use printing::{Form, shown};

@@ -4,7 +4,7 @@ use Rattle.std.proofs.lemmas.Bool.{lt-ltb, le-ltb}
 use Rattle.toml.specs.View.{items_view}
 use Rattle.toml.specs.declared.value.Value.{Value}
 use Rattle.share_config.specs.declared.key.Key.TheVariants as key
-use Rattle.share_config.specs.declared.key.Place.TheVariants as place
+use Rattle.share_config.specs.declared.key.Location.TheVariants as location
 use Rattle.share_config.specs.declared.fault.Reason.TheVariants as reason
 use Rattle.share_config.specs.Lists.{count, some_tariffs, tariff_of}
 use Rattle.share_config.specs.Reading.{wrong, each}
@@ -14,7 +14,7 @@ count_of [] = refl
 count_of (v ∷ vs) = let h : count (items_view vs) ≡ length vs = count_of vs in omega arith
 
 pub too_many : (vs : List Value) → 8 < length vs
-    → some_tariffs (items_view vs) ≡ wrong place.File key.Tariff (reason.TooMany 8)
+    → some_tariffs (items_view vs) ≡ wrong location.File key.Tariff (reason.TooMany 8)
 too_many [] h = absurd (omega arith)
 too_many (v ∷ vs) h =
     let counted : count (items_view (v ∷ vs)) ≡ length (v ∷ vs) = count_of (v ∷ vs) in

@@ -8,8 +8,8 @@ use Rattle.share_settings.specs.declared.section.Downlink.{Downlink}
 use Rattle.share_settings.specs.Settings.{SettingsView}
 use Rattle.share_config.specs.declared.key.Key.{Key}
 use Rattle.share_config.specs.declared.key.Key.TheVariants as key
-use Rattle.share_config.specs.declared.key.Place.{Place}
-use Rattle.share_config.specs.declared.key.Place.TheVariants as place
+use Rattle.share_config.specs.declared.key.Location.{Location}
+use Rattle.share_config.specs.declared.key.Location.TheVariants as location
 use Rattle.share_config.specs.declared.fault.Reason.TheVariants as reason
 use Rattle.share_config.specs.declared.fault.ConfigFault.{ConfigFault}
 use Rattle.share_config.specs.declared.fault.ConfigFault.TheVariants.{NoMemory, NotToml, Unknown, Wrong, NoPlan}
@@ -20,23 +20,23 @@ use Rattle.share_config.specs.Tenants.{currency_of, tenant_of, ports_of}
 use Rattle.share_config.specs.Endpoints.{endpoints_of, once}
 
 -- a table that a file may have
-abbrev pub some_table : {A : Type 0} → (Members → Said A) → Place → Key → Data → Said (Option A)
+abbrev pub some_table : {A : Type 0} → (Members → Said A) → Location → Key → Data → Said (Option A)
 some_table read p k d = do
   ms ← table_in p k d
   a ← read ms
   Ok (Some a)
 
 -- a table that a file needs
-abbrev pub table_at : {A : Type 0} → (Members → Said A) → Place → Key → Data → Said A
+abbrev pub table_at : {A : Type 0} → (Members → Said A) → Location → Key → Data → Said A
 table_at read p k d = table_in p k d >>= read
 
 -- the tables of a list
-abbrev pub list_in : {A : Type 0} → (Place → ℕ → Data → Said A) → Place → Key → Data → Said (List A)
+abbrev pub list_in : {A : Type 0} → (Location → ℕ → Data → Said A) → Location → Key → Data → Said (List A)
 list_in read p k d = array_in p k d >>= each (read p) 1
 
 -- a file without an uplink needs a downlink
 abbrev pub reached : Option Uplink → Option Downlink → Said (Option Downlink)
-reached None None = wrong place.File key.Downlink reason.NoDownlink
+reached None None = wrong location.File key.Downlink reason.NoDownlink
 reached uplink downlink = Ok downlink
 
 abbrev pub plan_by : PlanView → Option PlanFault → Said PlanView
@@ -50,18 +50,18 @@ plan_of currencies tenants =
 -- the meaning of a document
 abbrev pub settings_of : Members → Said SettingsView
 settings_of all = do
-  ms ← known place.File all
-  uplink ← optional (some_table uplink_of) None place.File key.Uplink ms
-  books ← needed (table_at books_of) place.File key.Books ms
-  control ← needed (table_at control_of) place.File key.Control ms
-  given ← optional (some_table downlink_of) None place.File key.Downlink ms
+  ms ← known location.File all
+  uplink ← optional (some_table uplink_of) None location.File key.Uplink ms
+  books ← needed (table_at books_of) location.File key.Books ms
+  control ← needed (table_at control_of) location.File key.Control ms
+  given ← optional (some_table downlink_of) None location.File key.Downlink ms
   downlink ← reached uplink given
-  web ← optional (some_table web_of) None place.File key.Web ms
+  web ← optional (some_table web_of) None location.File key.Web ms
   tariffs ← tariffs_of ms
-  currencies ← optional (list_in currency_of) [] place.File key.Currency ms
-  tenants ← optional (list_in tenant_of) [] place.File key.Tenant ms
+  currencies ← optional (list_in currency_of) [] location.File key.Currency ms
+  tenants ← optional (list_in tenant_of) [] location.File key.Tenant ms
   plan ← plan_of currencies tenants
-  ports ← optional (list_in ports_of) [] place.File key.Tenant ms
+  ports ← optional (list_in ports_of) [] location.File key.Tenant ms
   addresses ← once (endpoints_of uplink control downlink web ports)
   Ok (record {
     uplink = uplink;

@@ -4,8 +4,8 @@ use Rattle.std.specs.List.{list_any}
 use Rattle.std.specs.Str.{bytes_eq}
 use Rattle.share_config.specs.declared.key.Key.{Key}
 use Rattle.share_config.specs.declared.key.Key.TheVariants as key
-use Rattle.share_config.specs.declared.key.Place.{Place}
-use Rattle.share_config.specs.declared.key.Place.TheVariants as place
+use Rattle.share_config.specs.declared.key.Location.{Location}
+use Rattle.share_config.specs.declared.key.Location.TheVariants as location
 
 abbrev pub spelling : Key → List ℕ
 spelling key.Uplink = codes "uplink"
@@ -38,21 +38,21 @@ spelling key.Held = codes "held"
 spelling key.Amount = codes "amount"
 spelling key.Of = codes "of"
 
-abbrev pub keys_of : Place → List Key
-keys_of place.File =
+abbrev pub keys_of : Location → List Key
+keys_of location.File =
     key.Uplink ∷ key.Books ∷ key.Control ∷ key.Tariff ∷ key.Currency ∷ key.Tenant ∷ key.Downlink ∷ key.Web ∷ []
-keys_of place.Uplink = key.Connect ∷ key.Rate ∷ key.Buffer ∷ []
-keys_of place.Books = key.Folder ∷ key.Text ∷ key.Events ∷ key.Period ∷ []
-keys_of place.Control = key.Listen ∷ key.Mode ∷ []
-keys_of place.Downlink = key.Listen ∷ key.From ∷ []
-keys_of place.Web = key.Listen ∷ []
-keys_of (place.Tariff n) = key.Cell ∷ key.Overhead ∷ key.Price ∷ []
-keys_of (place.Currency n) = key.Name ∷ key.Tickets ∷ []
-keys_of (place.Tenant n) =
+keys_of location.Uplink = key.Connect ∷ key.Rate ∷ key.Buffer ∷ []
+keys_of location.Books = key.Folder ∷ key.Text ∷ key.Events ∷ key.Period ∷ []
+keys_of location.Control = key.Listen ∷ key.Mode ∷ []
+keys_of location.Downlink = key.Listen ∷ key.From ∷ []
+keys_of location.Web = key.Listen ∷ []
+keys_of (location.Tariff n) = key.Cell ∷ key.Overhead ∷ key.Price ∷ []
+keys_of (location.Currency n) = key.Name ∷ key.Tickets ∷ []
+keys_of (location.Tenant n) =
     key.Name ∷ key.Flow ∷ key.Port ∷ key.Mode ∷ key.Packets ∷ key.Tariff ∷ key.Held ∷ key.Tickets ∷ []
-keys_of (place.CurrencyTicket n m) = key.Amount ∷ key.Of ∷ []
-keys_of (place.TenantTicket n m) = key.Amount ∷ key.Of ∷ []
+keys_of (location.CurrencyTicket n m) = key.Amount ∷ key.Of ∷ []
+keys_of (location.TenantTicket n m) = key.Amount ∷ key.Of ∷ []
 
 -- whether a table may have the key that is spelled so
-abbrev pub is_known : Place → List ℕ → Bool
+abbrev pub is_known : Location → List ℕ → Bool
 is_known p text = list_any (λ k. bytes_eq text (spelling k)) (keys_of p)

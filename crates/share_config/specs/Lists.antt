@@ -4,8 +4,8 @@ use Rattle.toml.specs.Data.{Data, Items, no_items, item, Members}
 use Rattle.share_model.specs.declared.rates.Rate.{Rate}
 use Rattle.share_config.specs.declared.key.Key.{Key}
 use Rattle.share_config.specs.declared.key.Key.TheVariants as key
-use Rattle.share_config.specs.declared.key.Place.{Place}
-use Rattle.share_config.specs.declared.key.Place.TheVariants as place
+use Rattle.share_config.specs.declared.key.Location.{Location}
+use Rattle.share_config.specs.declared.key.Location.TheVariants as location
 use Rattle.share_config.specs.declared.fault.Reason.TheVariants as reason
 use Rattle.share_config.specs.Reading.{Said, ◌>>=◌, wrong, number_in, array_in, table_in, needed, optional, known}
 use Rattle.share_config.specs.Reading.{each}
@@ -14,11 +14,11 @@ use Rattle.share_config.specs.Reading.{each}
 
 abbrev pub tariff_of : ℕ → Data → Said Rate
 tariff_of n d = do
-  all ← table_in place.File key.Tariff d
-  ms ← known (place.Tariff n) all
-  cell ← needed (number_in 1 2048) (place.Tariff n) key.Cell ms
-  overhead ← needed (number_in 0 1024) (place.Tariff n) key.Overhead ms
-  price ← needed (number_in 0 65535) (place.Tariff n) key.Price ms
+  all ← table_in location.File key.Tariff d
+  ms ← known (location.Tariff n) all
+  cell ← needed (number_in 1 2048) (location.Tariff n) key.Cell ms
+  overhead ← needed (number_in 0 1024) (location.Tariff n) key.Overhead ms
+  price ← needed (number_in 0 65535) (location.Tariff n) key.Price ms
   Ok (record { cell = cell; overhead = overhead; price = price })
 
 abbrev pub rate : ℕ → ℕ → ℕ → Rate
@@ -37,11 +37,11 @@ abbrev pub some_tariffs : Items → Said (List Rate)
 some_tariffs no_items = Ok default_tariffs
 some_tariffs (item d ds) =
     if nat_lt 8 (count (item d ds))
-    then wrong place.File key.Tariff (reason.TooMany 8)
+    then wrong location.File key.Tariff (reason.TooMany 8)
     else each tariff_of 1 (item d ds)
 
-abbrev pub tariffs_in : Place → Key → Data → Said (List Rate)
+abbrev pub tariffs_in : Location → Key → Data → Said (List Rate)
 tariffs_in p k d = array_in p k d >>= some_tariffs
 
 abbrev pub tariffs_of : Members → Said (List Rate)
-tariffs_of ms = optional tariffs_in default_tariffs place.File key.Tariff ms
+tariffs_of ms = optional tariffs_in default_tariffs location.File key.Tariff ms

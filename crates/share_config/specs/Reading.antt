@@ -5,7 +5,7 @@ use Rattle.toml.specs.Data.{Data, string, integer, boolean, array, table, Items,
 use Rattle.toml.specs.Data.{member, get_member}
 use Rattle.share_config.specs.Keys.{spelling, is_known}
 use Rattle.share_config.specs.declared.key.Key.{Key}
-use Rattle.share_config.specs.declared.key.Place.{Place}
+use Rattle.share_config.specs.declared.key.Location.{Location}
 use Rattle.share_config.specs.declared.fault.Reason.{Reason}
 use Rattle.share_config.specs.declared.fault.Reason.TheVariants as reason
 use Rattle.share_config.specs.declared.fault.ConfigFault.{ConfigFault}
@@ -20,53 +20,53 @@ abbrev pub ◌>>=◌ : {A B : Type 0} → Said A → (A → Said B) → Said B
 Ok a >>= f = f a
 Err e >>= f = Err e
 
-abbrev pub wrong : {A : Type 0} → Place → Key → Reason → Said A
+abbrev pub wrong : {A : Type 0} → Location → Key → Reason → Said A
 wrong p k r = Err (Wrong p k r)
 
 -- the meaning of a text, if it has one
-abbrev pub found : {A : Type 0} → Place → Key → Reason → Option A → Said A
+abbrev pub found : {A : Type 0} → Location → Key → Reason → Option A → Said A
 found p k r None = wrong p k r
 found p k r (Some a) = Ok a
 
 -- ---- Values
 
-abbrev pub text_in : Place → Key → Data → Said (List ℕ)
+abbrev pub text_in : Location → Key → Data → Said (List ℕ)
 text_in p k (string s) = Ok s
 text_in p k _ = wrong p k reason.NotText
 
-abbrev pub number_in : ℕ → ℕ → Place → Key → Data → Said ℕ
+abbrev pub number_in : ℕ → ℕ → Location → Key → Data → Said ℕ
 number_in least most p k (integer (pos n)) =
     if nat_le least n && nat_le n most then Ok n else wrong p k (reason.Range least most)
 number_in least most p k (integer (negsuc n)) = wrong p k (reason.Range least most)
 number_in least most p k _ = wrong p k reason.NotInteger
 
-abbrev pub boolean_in : Place → Key → Data → Said Bool
+abbrev pub boolean_in : Location → Key → Data → Said Bool
 boolean_in p k (boolean b) = Ok b
 boolean_in p k _ = wrong p k reason.NotBoolean
 
-abbrev pub array_in : Place → Key → Data → Said Items
+abbrev pub array_in : Location → Key → Data → Said Items
 array_in p k (array ds) = Ok ds
 array_in p k _ = wrong p k reason.NotArray
 
-abbrev pub table_in : Place → Key → Data → Said Members
+abbrev pub table_in : Location → Key → Data → Said Members
 table_in p k (table ms) = Ok ms
 table_in p k _ = wrong p k reason.NotTable
 
 -- ---- Keys
 
 -- a value that a table needs, and one that it may have
-abbrev pub needed_in : {A : Type 0} → (Place → Key → Data → Said A) → Place → Key → Option Data → Said A
+abbrev pub needed_in : {A : Type 0} → (Location → Key → Data → Said A) → Location → Key → Option Data → Said A
 needed_in read p k None = wrong p k reason.Missing
 needed_in read p k (Some d) = read p k d
 
-abbrev pub needed : {A : Type 0} → (Place → Key → Data → Said A) → Place → Key → Members → Said A
+abbrev pub needed : {A : Type 0} → (Location → Key → Data → Said A) → Location → Key → Members → Said A
 needed read p k ms = needed_in read p k (get_member (spelling k) ms)
 
-abbrev pub optional_in : {A : Type 0} → (Place → Key → Data → Said A) → A → Place → Key → Option Data → Said A
+abbrev pub optional_in : {A : Type 0} → (Location → Key → Data → Said A) → A → Location → Key → Option Data → Said A
 optional_in read default p k None = Ok default
 optional_in read default p k (Some d) = read p k d
 
-abbrev pub optional : {A : Type 0} → (Place → Key → Data → Said A) → A → Place → Key → Members → Said A
+abbrev pub optional : {A : Type 0} → (Location → Key → Data → Said A) → A → Location → Key → Members → Said A
 optional read default p k ms = optional_in read default p k (get_member (spelling k) ms)
 
 abbrev pub keys_in : Members → List (List ℕ)
@@ -74,15 +74,15 @@ keys_in no_members = []
 keys_in (member k d ms) = k ∷ keys_in ms
 
 -- the first key that a table may not have
-abbrev pub unknown : Place → Members → Option (List ℕ)
+abbrev pub unknown : Location → Members → Option (List ℕ)
 unknown p ms = find (λ k. not (is_known p k)) (keys_in ms)
 
-abbrev pub known_by : Place → Option (List ℕ) → Members → Said Members
+abbrev pub known_by : Location → Option (List ℕ) → Members → Said Members
 known_by p None ms = Ok ms
 known_by p (Some k) ms = Err (Unknown p k)
 
 -- the members of a table, all of whose keys it may have
-abbrev pub known : Place → Members → Said Members
+abbrev pub known : Location → Members → Said Members
 known p ms = known_by p (unknown p ms) ms
 
 -- ---- Lists

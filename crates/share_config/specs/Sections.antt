@@ -13,8 +13,8 @@ use Rattle.share_settings.specs.declared.section.Downlink.{Downlink}
 use Rattle.share_settings.specs.declared.section.Web.{Web}
 use Rattle.share_config.specs.declared.key.Key.{Key}
 use Rattle.share_config.specs.declared.key.Key.TheVariants as key
-use Rattle.share_config.specs.declared.key.Place.{Place}
-use Rattle.share_config.specs.declared.key.Place.TheVariants as place
+use Rattle.share_config.specs.declared.key.Location.{Location}
+use Rattle.share_config.specs.declared.key.Location.TheVariants as location
 use Rattle.share_config.specs.declared.fault.Reason.{Reason}
 use Rattle.share_config.specs.declared.fault.Reason.TheVariants as reason
 use Rattle.share_spellings.specs.Amounts.{rate_of, period_of, mode_of}
@@ -22,27 +22,27 @@ use Rattle.share_spellings.specs.Addresses.{address_of, host_of, peer_of, listen
 use Rattle.share_config.specs.Reading.{Said, ◌>>=◌, wrong, found, text_in, number_in, needed, optional, known}
 
 -- a text that says a value
-abbrev pub value_in : {A : Type 0} → (List ℕ → Option A) → Reason → Place → Key → Data → Said A
+abbrev pub value_in : {A : Type 0} → (List ℕ → Option A) → Reason → Location → Key → Data → Said A
 value_in read r p k d = text_in p k d >>= λ text. found p k r (read text)
 
 -- the same of a value that a table may have
-abbrev pub some_in : {A : Type 0} → (List ℕ → Option A) → Reason → Place → Key → Data → Said (Option A)
+abbrev pub some_in : {A : Type 0} → (List ℕ → Option A) → Reason → Location → Key → Data → Said (Option A)
 some_in read r p k d = value_in read r p k d >>= λ a. Ok (Some a)
 
 -- ---- The uplink
 
 -- datagrams need a rate
 abbrev pub paced : Peer → Option ℕ → Said (Option ℕ)
-paced (peer.Udp address) None = wrong place.Uplink key.Rate reason.NoRate
+paced (peer.Udp address) None = wrong location.Uplink key.Rate reason.NoRate
 paced to rate = Ok rate
 
 abbrev pub uplink_of : Members → Said Uplink
 uplink_of all = do
-  ms ← known place.Uplink all
-  to ← needed (value_in peer_of reason.Peer) place.Uplink key.Connect ms
-  given ← optional (some_in rate_of reason.Rate) None place.Uplink key.Rate ms
+  ms ← known location.Uplink all
+  to ← needed (value_in peer_of reason.Peer) location.Uplink key.Connect ms
+  given ← optional (some_in rate_of reason.Rate) None location.Uplink key.Rate ms
   rate ← paced to given
-  buffer ← optional (number_in 16384 16777216) 262144 place.Uplink key.Buffer ms
+  buffer ← optional (number_in 16384 16777216) 262144 location.Uplink key.Buffer ms
   Ok (record { to = to; rate = rate; buffer = buffer })
 
 -- ---- Books
@@ -55,11 +55,11 @@ book_text_of text =
 
 abbrev pub books_of : Members → Said Books
 books_of all = do
-  ms ← known place.Books all
-  folder ← needed (value_in (path_of 4095) reason.Folder) place.Books key.Folder ms
-  text ← optional (value_in book_text_of reason.BookText) Lengths place.Books key.Text ms
-  events ← optional (number_in 131072 16777216) 16777216 place.Books key.Events ms
-  period ← optional (some_in period_of reason.Period) None place.Books key.Period ms
+  ms ← known location.Books all
+  folder ← needed (value_in (path_of 4095) reason.Folder) location.Books key.Folder ms
+  text ← optional (value_in book_text_of reason.BookText) Lengths location.Books key.Text ms
+  events ← optional (number_in 131072 16777216) 16777216 location.Books key.Events ms
+  period ← optional (some_in period_of reason.Period) None location.Books key.Period ms
   Ok (record { folder = folder; text = text; events = events; period = period })
 
 -- ---- Control
@@ -68,29 +68,29 @@ books_of all = do
 abbrev pub default_mode : ℕ
 default_mode = 384
 
-abbrev pub mode_at : Place → Members → Said ℕ
+abbrev pub mode_at : Location → Members → Said ℕ
 mode_at p ms = optional (value_in mode_of reason.Mode) default_mode p key.Mode ms
 
 abbrev pub control_of : Members → Said Control
 control_of all = do
-  ms ← known place.Control all
-  listen ← needed (value_in listener_of reason.Listener) place.Control key.Listen ms
-  mode ← mode_at place.Control ms
+  ms ← known location.Control all
+  listen ← needed (value_in listener_of reason.Listener) location.Control key.Listen ms
+  mode ← mode_at location.Control ms
   Ok (record { listen = listen; mode = mode })
 
 -- ---- The downlink
 
 abbrev pub downlink_of : Members → Said Downlink
 downlink_of all = do
-  ms ← known place.Downlink all
-  listen ← needed (value_in peer_of reason.Peer) place.Downlink key.Listen ms
-  from ← optional (some_in host_of reason.Host) None place.Downlink key.From ms
+  ms ← known location.Downlink all
+  listen ← needed (value_in peer_of reason.Peer) location.Downlink key.Listen ms
+  from ← optional (some_in host_of reason.Host) None location.Downlink key.From ms
   Ok (record { listen = listen; from = from })
 
 -- ---- The web listener
 
 abbrev pub web_of : Members → Said Web
 web_of all = do
-  ms ← known place.Web all
-  listen ← needed (value_in address_of reason.Address) place.Web key.Listen ms
+  ms ← known location.Web all
+  listen ← needed (value_in address_of reason.Address) location.Web key.Listen ms
   Ok (record { listen = listen })

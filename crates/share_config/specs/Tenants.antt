@@ -8,8 +8,8 @@ use Rattle.share_settings.specs.declared.port.Port.{Port}
 use Rattle.share_settings.specs.Ports.{PortsView}
 use Rattle.share_config.specs.declared.key.Key.{Key}
 use Rattle.share_config.specs.declared.key.Key.TheVariants as key
-use Rattle.share_config.specs.declared.key.Place.{Place}
-use Rattle.share_config.specs.declared.key.Place.TheVariants as place
+use Rattle.share_config.specs.declared.key.Location.{Location}
+use Rattle.share_config.specs.declared.key.Location.TheVariants as location
 use Rattle.share_config.specs.declared.fault.Reason.TheVariants as reason
 use Rattle.share_spellings.specs.Addresses.{port_of}
 use Rattle.share_config.specs.Reading.{Said, ◌>>=◌, wrong, found, text_in, number_in, boolean_in, array_in, table_in}
@@ -22,12 +22,12 @@ name_of text = if is_name text then Some text else None
 -- ---- Tickets
 
 -- the table of a ticket of a currency or a tenant
-abbrev pub ticket_place : Place → ℕ → Place
-ticket_place (place.Currency n) m = place.CurrencyTicket n m
-ticket_place (place.Tenant n) m = place.TenantTicket n m
-ticket_place p m = p
+abbrev pub ticket_location : Location → ℕ → Location
+ticket_location (location.Currency n) m = location.CurrencyTicket n m
+ticket_location (location.Tenant n) m = location.TenantTicket n m
+ticket_location p m = p
 
-abbrev pub ticket_at : Place → Members → Said Grant
+abbrev pub ticket_at : Location → Members → Said Grant
 ticket_at p all = do
   ms ← known p all
   amount ← needed (number_in 1 1048576) p key.Amount ms
@@ -35,63 +35,63 @@ ticket_at p all = do
   denomination ← found p key.Of reason.Name (name_of text)
   Ok (record { amount = amount; denomination = denomination })
 
-abbrev pub ticket_of : Place → ℕ → Data → Said Grant
-ticket_of p m d = table_in p key.Tickets d >>= ticket_at (ticket_place p m)
+abbrev pub ticket_of : Location → ℕ → Data → Said Grant
+ticket_of p m d = table_in p key.Tickets d >>= ticket_at (ticket_location p m)
 
-abbrev pub tickets_in : Place → Key → Data → Said (List Grant)
+abbrev pub tickets_in : Location → Key → Data → Said (List Grant)
 tickets_in p k d = array_in p k d >>= each (ticket_of p) 1
 
-abbrev pub tickets_at : Place → Members → Said (List Grant)
+abbrev pub tickets_at : Location → Members → Said (List Grant)
 tickets_at p ms = optional tickets_in [] p key.Tickets ms
 
 -- ---- Currencies
 
-abbrev pub currency_at : Place → Members → Said CurrencyView
+abbrev pub currency_at : Location → Members → Said CurrencyView
 currency_at p all = do
   ms ← known p all
   name ← needed (value_in name_of reason.Name) p key.Name ms
   grants ← tickets_at p ms
   Ok (record { name = name; grants = grants })
 
-abbrev pub currency_of : Place → ℕ → Data → Said CurrencyView
-currency_of p n d = table_in p key.Currency d >>= currency_at (place.Currency n)
+abbrev pub currency_of : Location → ℕ → Data → Said CurrencyView
+currency_of p n d = table_in p key.Currency d >>= currency_at (location.Currency n)
 
 -- ---- Tenants
 
 -- a flow number, which is the tenant's place if the file gives none
-abbrev pub in_flows : Place → ℕ → Said ℕ
+abbrev pub in_flows : Location → ℕ → Said ℕ
 in_flows p flow = if nat_le flow 1024 then Ok flow else wrong p key.Flow (reason.Range 1 1024)
 
 abbrev pub flow_at : ℕ → Members → Said ℕ
-flow_at n ms = optional (number_in 1 1024) n (place.Tenant n) key.Flow ms >>= in_flows (place.Tenant n)
+flow_at n ms = optional (number_in 1 1024) n (location.Tenant n) key.Flow ms >>= in_flows (location.Tenant n)
 
 abbrev pub tenant_at : ℕ → Members → Said TenantView
 tenant_at n all = do
-  ms ← known (place.Tenant n) all
-  name ← needed (value_in name_of reason.Name) (place.Tenant n) key.Name ms
+  ms ← known (location.Tenant n) all
+  name ← needed (value_in name_of reason.Name) (location.Tenant n) key.Name ms
   flow ← flow_at n ms
-  limit ← optional (number_in 1 1024) 256 (place.Tenant n) key.Packets ms
-  tariff ← optional (number_in 1 8) 1 (place.Tenant n) key.Tariff ms
-  held ← optional boolean_in false (place.Tenant n) key.Held ms
-  grants ← tickets_at (place.Tenant n) ms
+  limit ← optional (number_in 1 1024) 256 (location.Tenant n) key.Packets ms
+  tariff ← optional (number_in 1 8) 1 (location.Tenant n) key.Tariff ms
+  held ← optional boolean_in false (location.Tenant n) key.Held ms
+  grants ← tickets_at (location.Tenant n) ms
   Ok (record { name = name; flow = flow; limit = limit; tariff = tariff; grants = grants; held = held })
 
-abbrev pub tenant_of : Place → ℕ → Data → Said TenantView
+abbrev pub tenant_of : Location → ℕ → Data → Said TenantView
 tenant_of p n d = table_in p key.Tenant d >>= tenant_at n
 
 -- ---- Ports
 
-abbrev pub port_in : Place → ℕ → Data → Said Port
+abbrev pub port_in : Location → ℕ → Data → Said Port
 port_in p m d = text_in p key.Port d >>= λ text. found p key.Port (reason.Port m) (port_of text)
 
-abbrev pub port_list_in : Place → Key → Data → Said (List Port)
+abbrev pub port_list_in : Location → Key → Data → Said (List Port)
 port_list_in p k d = array_in p k d >>= each (port_in p) 1
 
-abbrev pub ports_at : Place → Members → Said PortsView
+abbrev pub ports_at : Location → Members → Said PortsView
 ports_at p ms = do
   ports ← optional port_list_in [] p key.Port ms
   mode ← mode_at p ms
   Ok (record { ports = ports; mode = mode })
 
-abbrev pub ports_of : Place → ℕ → Data → Said PortsView
-ports_of p n d = table_in p key.Tenant d >>= ports_at (place.Tenant n)
+abbrev pub ports_of : Location → ℕ → Data → Said PortsView
+ports_of p n d = table_in p key.Tenant d >>= ports_at (location.Tenant n)

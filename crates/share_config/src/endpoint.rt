@@ -8,14 +8,14 @@ ghost use Rattle.share_config.specs.declared.key.Key.TheVariants as key;
 ghost use Rattle.share_config.specs.declared.fault.ConfigFault.TheVariants.{NoMemory};
 
 use crate::fault::{ConfigFault, Reason};
-use crate::key::{Key, Place};
+use crate::key::{Key, Location};
 use share_settings::{Control, Downlink, Port, TenantPorts, Uplink, Web};
 use std::alloc::Global;
 
 /// An address that a file gives: the table and the key that give it, and which of the key's addresses it is, from 1.
 #[derive(Drop)]
 pub(crate) struct Endpoint {
-    place: Place,
+    location: Location,
     key: Key,
     number: usize,
     port: Port,
@@ -65,7 +65,7 @@ fn push_uplink(list: &mut Vec<Endpoint>, uplink: Option<Uplink>) -> Result<(), C
         Some(uplink) => push(
             list,
             Endpoint {
-                place: Place::Uplink,
+                location: Location::Uplink,
                 key: Key::Connect,
                 number: 1,
                 port: uplink.to.port(),
@@ -87,7 +87,7 @@ fn push_control(
         Ok(port) => push(
             list,
             Endpoint {
-                place: Place::Control,
+                location: Location::Control,
                 key: Key::Listen,
                 number: 1,
                 port,
@@ -105,7 +105,7 @@ fn push_downlink(list: &mut Vec<Endpoint>, downlink: Option<Downlink>) -> Result
         Some(downlink) => push(
             list,
             Endpoint {
-                place: Place::Downlink,
+                location: Location::Downlink,
                 key: Key::Listen,
                 number: 1,
                 port: downlink.listen.port(),
@@ -123,7 +123,7 @@ fn push_web(list: &mut Vec<Endpoint>, web: Option<Web>) -> Result<(), ConfigFaul
         Some(web) => push(
             list,
             Endpoint {
-                place: Place::Web,
+                location: Location::Web,
                 key: Key::Listen,
                 number: 1,
                 port: Port::Tcp(web.listen),
@@ -145,7 +145,7 @@ fn push_tenants(
         push_ports(
             alloc,
             list,
-            Place::Tenant(index + 1),
+            Location::Tenant(index + 1),
             tenant.ports.as_slice(),
         )?;
     }
@@ -155,14 +155,14 @@ fn push_tenants(
 fn push_ports(
     alloc: Global,
     list: &mut Vec<Endpoint>,
-    place: Place,
+    location: Location,
     ports: &[Port],
 ) -> Result<(), ConfigFault>
-    ensures ok { OnOk result (list.new.items ≡ list.old.items ++ ports_from place 1 ports.now) }
+    ensures ok { OnOk result (list.new.items ≡ list.old.items ++ ports_from location 1 ports.now) }
     ensures fault { IfErr result (λ e. e ≡ NoMemory) }
 {
     for index in 0..ports.len() {
-        push_port(alloc, list, place, index + 1, &ports[index])?;
+        push_port(alloc, list, location, index + 1, &ports[index])?;
     }
     Ok(())
 }
@@ -170,11 +170,11 @@ fn push_ports(
 fn push_port(
     alloc: Global,
     list: &mut Vec<Endpoint>,
-    place: Place,
+    location: Location,
     number: usize,
     port: &Port,
 ) -> Result<(), ConfigFault>
-    ensures ok { OnOk result (list.new.items ≡ list.old.items ++ endpoint place key.Port number port.now ∷ []) }
+    ensures ok { OnOk result (list.new.items ≡ list.old.items ++ endpoint location key.Port number port.now ∷ []) }
     ensures fault { IfErr result (λ e. e ≡ NoMemory) }
 {
     match port.copy(alloc) {
@@ -182,7 +182,7 @@ fn push_port(
         Ok(port) => push(
             list,
             Endpoint {
-                place,
+                location,
                 key: Key::Port,
                 number,
                 port,
@@ -200,7 +200,7 @@ fn check_once(endpoints: &[Endpoint]) -> Result<(), ConfigFault>
         let endpoint = &endpoints[index];
         if is_among(&endpoints[..index], endpoint) {
             return Err(ConfigFault::wrong(
-                endpoint.place,
+                endpoint.location,
                 endpoint.key,
                 Reason::Twice {
                     number: endpoint.number,

@@ -1,5 +1,5 @@
 //! Why a text is no file of a gateway.
-use crate::key::{Key, Place};
+use crate::key::{Key, Location};
 use share_gateway::PlanFault;
 use share_settings::Text;
 use thiserror::Error;
@@ -65,14 +65,14 @@ pub enum ConfigFault {
         reason: Text,
     },
     /// A table has a key that it may not have.
-    #[error("{place}: {key}: unknown key")]
+    #[error("{location}: {key}: unknown key")]
     Unknown {
-        place: Place,
+        location: Location,
         key: Text,
     },
-    #[error("{place}: {key}: {reason}")]
+    #[error("{location}: {key}: {reason}")]
     Wrong {
-        place: Place,
+        location: Location,
         key: Key,
         reason: Reason,
     },

@@ -9,13 +9,13 @@ ghost use Rattle.share_config.specs.Tenants.{currency_of, tenant_of, ports_of};
 ghost use Rattle.share_config.specs.Files.{some_table, table_at, list_in, reached, plan_of, settings_of, IsFault};
 ghost use Rattle.share_config.specs.Files.{IsNotToml};
 ghost use Rattle.share_config.specs.declared.key.Key.TheVariants as key;
-ghost use Rattle.share_config.specs.declared.key.Place.TheVariants as place;
+ghost use Rattle.share_config.specs.declared.key.Location.TheVariants as location;
 ghost use Rattle.share_config.specs.declared.fault.ConfigFault.TheVariants.{NoMemory};
 
 use crate::endpoint::check_addresses;
 use crate::entry::{Entry, read_all};
 use crate::fault::{ConfigFault, Reason};
-use crate::key::{Key, Place};
+use crate::key::{Key, Location};
 use crate::reading::{array_in, at, check_keys, table_in};
 use crate::section::{books, control, downlink, uplink, web};
 use crate::tariff::tariffs;
@@ -66,7 +66,7 @@ fn settings(alloc: Global, table: &Table) -> Result<Settings, ConfigFault>
     ensures ok { IfOk result (λ s. settings_of (table_view table.now) ≡ Ok s) }
     ensures fault { IfErr result (λ e. ¬ (e ≡ NoMemory) → settings_of (table_view table.now) ≡ Err e) }
 {
-    check_keys(alloc, table, Place::File)?;
+    check_keys(alloc, table, Location::File)?;
     let uplink = uplink_at(alloc, table)?;
     let books = books_at(alloc, table)?;
     let control = control_at(alloc, table)?;
@@ -92,14 +92,14 @@ fn settings(alloc: Global, table: &Table) -> Result<Settings, ConfigFault>
 
 fn uplink_at(alloc: Global, table: &Table) -> Result<Option<Uplink>, ConfigFault>
     ensures ok { IfOk result (λ uplink.
-        optional (some_table uplink_of) None place.File key.Uplink (table_view table.now) ≡ Ok uplink) }
+        optional (some_table uplink_of) None location.File key.Uplink (table_view table.now) ≡ Ok uplink) }
     ensures fault { IfErr result (λ e. ¬ (e ≡ NoMemory)
-        → optional (some_table uplink_of) None place.File key.Uplink (table_view table.now) ≡ Err e) }
+        → optional (some_table uplink_of) None location.File key.Uplink (table_view table.now) ≡ Err e) }
 {
     match at(table, Key::Uplink) {
         None => Ok(None),
         Some(value) => {
-            let uplink = uplink(alloc, table_in(value, Place::File, Key::Uplink)?)?;
+            let uplink = uplink(alloc, table_in(value, Location::File, Key::Uplink)?)?;
             Ok(Some(uplink))
         }
     }
@@ -107,14 +107,14 @@ fn uplink_at(alloc: Global, table: &Table) -> Result<Option<Uplink>, ConfigFault
 
 fn downlink_at(alloc: Global, table: &Table) -> Result<Option<Downlink>, ConfigFault>
     ensures ok { IfOk result (λ downlink.
-        optional (some_table downlink_of) None place.File key.Downlink (table_view table.now) ≡ Ok downlink) }
+        optional (some_table downlink_of) None location.File key.Downlink (table_view table.now) ≡ Ok downlink) }
     ensures fault { IfErr result (λ e. ¬ (e ≡ NoMemory)
-        → optional (some_table downlink_of) None place.File key.Downlink (table_view table.now) ≡ Err e) }
+        → optional (some_table downlink_of) None location.File key.Downlink (table_view table.now) ≡ Err e) }
 {
     match at(table, Key::Downlink) {
         None => Ok(None),
         Some(value) => {
-            let downlink = downlink(alloc, table_in(value, Place::File, Key::Downlink)?)?;
+            let downlink = downlink(alloc, table_in(value, Location::File, Key::Downlink)?)?;
             Ok(Some(downlink))
         }
     }
@@ -122,14 +122,14 @@ fn downlink_at(alloc: Global, table: &Table) -> Result<Option<Downlink>, ConfigF
 
 fn web_at(alloc: Global, table: &Table) -> Result<Option<Web>, ConfigFault>
     ensures ok { IfOk result (λ web.
-        optional (some_table web_of) None place.File key.Web (table_view table.now) ≡ Ok web) }
+        optional (some_table web_of) None location.File key.Web (table_view table.now) ≡ Ok web) }
     ensures fault { IfErr result (λ e. ¬ (e ≡ NoMemory)
-        → optional (some_table web_of) None place.File key.Web (table_view table.now) ≡ Err e) }
+        → optional (some_table web_of) None location.File key.Web (table_view table.now) ≡ Err e) }
 {
     match at(table, Key::Web) {
         None => Ok(None),
         Some(value) => {
-            let web = web(alloc, table_in(value, Place::File, Key::Web)?)?;
+            let web = web(alloc, table_in(value, Location::File, Key::Web)?)?;
             Ok(Some(web))
         }
     }
@@ -137,38 +137,38 @@ fn web_at(alloc: Global, table: &Table) -> Result<Option<Web>, ConfigFault>
 
 fn books_at(alloc: Global, table: &Table) -> Result<Books, ConfigFault>
     ensures ok { IfOk result (λ books.
-        needed (table_at books_of) place.File key.Books (table_view table.now) ≡ Ok books) }
+        needed (table_at books_of) location.File key.Books (table_view table.now) ≡ Ok books) }
     ensures fault { IfErr result (λ e. ¬ (e ≡ NoMemory)
-        → needed (table_at books_of) place.File key.Books (table_view table.now) ≡ Err e) }
+        → needed (table_at books_of) location.File key.Books (table_view table.now) ≡ Err e) }
 {
     match at(table, Key::Books) {
-        None => Err(ConfigFault::wrong(Place::File, Key::Books, Reason::Missing)),
-        Some(value) => books(alloc, table_in(value, Place::File, Key::Books)?),
+        None => Err(ConfigFault::wrong(Location::File, Key::Books, Reason::Missing)),
+        Some(value) => books(alloc, table_in(value, Location::File, Key::Books)?),
     }
 }
 
 fn control_at(alloc: Global, table: &Table) -> Result<Control, ConfigFault>
     ensures ok { IfOk result (λ control.
-        needed (table_at control_of) place.File key.Control (table_view table.now) ≡ Ok control) }
+        needed (table_at control_of) location.File key.Control (table_view table.now) ≡ Ok control) }
     ensures fault { IfErr result (λ e. ¬ (e ≡ NoMemory)
-        → needed (table_at control_of) place.File key.Control (table_view table.now) ≡ Err e) }
+        → needed (table_at control_of) location.File key.Control (table_view table.now) ≡ Err e) }
 {
     match at(table, Key::Control) {
-        None => Err(ConfigFault::wrong(Place::File, Key::Control, Reason::Missing)),
-        Some(value) => control(alloc, table_in(value, Place::File, Key::Control)?),
+        None => Err(ConfigFault::wrong(Location::File, Key::Control, Reason::Missing)),
+        Some(value) => control(alloc, table_in(value, Location::File, Key::Control)?),
     }
 }
 
 // The entries of a list that a file may have.
 fn list_at<T: Entry>(alloc: Global, table: &Table, key: Key) -> Result<Vec<T>, ConfigFault>
     ensures ok { IfOk result (λ entries.
-        optional (list_in T.said) [] place.File key (table_view table.now) ≡ Ok entries.items) }
+        optional (list_in T.said) [] location.File key (table_view table.now) ≡ Ok entries.items) }
     ensures fault { IfErr result (λ e. ¬ (e ≡ NoMemory)
-        → optional (list_in T.said) [] place.File key (table_view table.now) ≡ Err e) }
+        → optional (list_in T.said) [] location.File key (table_view table.now) ≡ Err e) }
 {
     match at(table, key) {
         None => Ok(Vec::new(alloc)),
-        Some(value) => read_all::<T>(alloc, Place::File, array_in(value, Place::File, key)?),
+        Some(value) => read_all::<T>(alloc, Location::File, array_in(value, Location::File, key)?),
     }
 }
 
@@ -180,7 +180,7 @@ fn reached(
     ensures { result ≡ reached uplink downlink }
 {
     match (uplink, downlink) {
-        (None, None) => Err(ConfigFault::wrong(Place::File, Key::Downlink, Reason::NoDownlink)),
+        (None, None) => Err(ConfigFault::wrong(Location::File, Key::Downlink, Reason::NoDownlink)),
         _ => Ok(downlink),
     }
 }

@@ -6,7 +6,7 @@ use std::fmt;
 
 /// A table of a file. Tables of one kind are numbered from 1, in the order of the file.
 #[derive(Clone, Copy, Debug, PartialEq, Eq)]
-pub enum Place {
+pub enum Location {
     /// The whole file.
     File,
     Uplink,
@@ -100,13 +100,13 @@ impl fmt::Display for Key {
     }
 }
 
-impl Place {
+impl Location {
     /// The keys that a table may have.
     pub fn keys(self) -> &'static [Key]
         ensures { result.now ≡ keys_of self }
     {
         match self {
-            Place::File => &[
+            Location::File => &[
                 Key::Uplink,
                 Key::Books,
                 Key::Control,
@@ -116,14 +116,14 @@ impl Place {
                 Key::Downlink,
                 Key::Web,
             ],
-            Place::Uplink => &[Key::Connect, Key::Rate, Key::Buffer],
-            Place::Books => &[Key::Folder, Key::Text, Key::Events, Key::Period],
-            Place::Control => &[Key::Listen, Key::Mode],
-            Place::Downlink => &[Key::Listen, Key::From],
-            Place::Web => &[Key::Listen],
-            Place::Tariff(_) => &[Key::Cell, Key::Overhead, Key::Price],
-            Place::Currency(_) => &[Key::Name, Key::Tickets],
-            Place::Tenant(_) => &[
+            Location::Uplink => &[Key::Connect, Key::Rate, Key::Buffer],
+            Location::Books => &[Key::Folder, Key::Text, Key::Events, Key::Period],
+            Location::Control => &[Key::Listen, Key::Mode],
+            Location::Downlink => &[Key::Listen, Key::From],
+            Location::Web => &[Key::Listen],
+            Location::Tariff(_) => &[Key::Cell, Key::Overhead, Key::Price],
+            Location::Currency(_) => &[Key::Name, Key::Tickets],
+            Location::Tenant(_) => &[
                 Key::Name,
                 Key::Flow,
                 Key::Port,
@@ -133,7 +133,10 @@ impl Place {
                 Key::Held,
                 Key::Tickets,
             ],
-            Place::CurrencyTicket { .. } | Place::TenantTicket { .. } => &[Key::Amount, Key::Of],
+            Location::CurrencyTicket { .. } | Location::TenantTicket { .. } => &[
+                Key::Amount,
+                Key::Of,
+            ],
         }
     }
 
@@ -147,23 +150,23 @@ impl Place {
     }
 }
 
-impl fmt::Display for Place {
+impl fmt::Display for Location {
     fn fmt<W: fmt::Write>(&self, f: &mut fmt::Formatter<W>) -> fmt::Result {
         match self {
-            Place::File => f.write_str("the file"),
-            Place::Uplink => f.write_str("[uplink]"),
-            Place::Books => f.write_str("[books]"),
-            Place::Control => f.write_str("[control]"),
-            Place::Downlink => f.write_str("[downlink]"),
-            Place::Web => f.write_str("[web]"),
-            Place::Tariff(tariff) => write!(f, "tariff {tariff}"),
-            Place::Currency(currency) => write!(f, "currency {currency}"),
-            Place::Tenant(tenant) => write!(f, "tenant {tenant}"),
-            Place::CurrencyTicket { currency, ticket } => write!(
+            Location::File => f.write_str("the file"),
+            Location::Uplink => f.write_str("[uplink]"),
+            Location::Books => f.write_str("[books]"),
+            Location::Control => f.write_str("[control]"),
+            Location::Downlink => f.write_str("[downlink]"),
+            Location::Web => f.write_str("[web]"),
+            Location::Tariff(tariff) => write!(f, "tariff {tariff}"),
+            Location::Currency(currency) => write!(f, "currency {currency}"),
+            Location::Tenant(tenant) => write!(f, "tenant {tenant}"),
+            Location::CurrencyTicket { currency, ticket } => write!(
                 f,
                 "ticket {ticket} of currency {currency}"
             ),
-            Place::TenantTicket { tenant, ticket } => write!(
+            Location::TenantTicket { tenant, ticket } => write!(
                 f,
                 "ticket {ticket} of tenant {tenant}"
             ),

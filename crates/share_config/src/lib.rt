@@ -13,4 +13,4 @@ mod tenant;
 
 pub use fault::{ConfigFault, Reason};
 pub use file::read_settings;
-pub use key::{Key, Place};
+pub use key::{Key, Location};

@@ -9,7 +9,7 @@ ghost use Rattle.share_config.specs.Reading.{unknown, known};
 ghost use Rattle.share_config.specs.declared.fault.ConfigFault.TheVariants.{NoMemory};
 
 use crate::fault::{ConfigFault, Reason};
-use crate::key::{Key, Place};
+use crate::key::{Key, Location};
 use share_settings::Text;
 use std::alloc::Global;
 use toml::{Table, Value};
@@ -18,24 +18,28 @@ impl ConfigFault {
     ghost use Rattle.std.specs.Prelude.{◌≡◌};
     ghost use Rattle.share_config.specs.declared.fault.ConfigFault.TheVariants.{Wrong};
 
-    pub(crate) fn wrong(place: Place, key: Key, reason: Reason) -> ConfigFault
-        ensures { result ≡ Wrong place key reason }
+    pub(crate) fn wrong(location: Location, key: Key, reason: Reason) -> ConfigFault
+        ensures { result ≡ Wrong location key reason }
     {
-        ConfigFault::Wrong { place, key, reason }
+        ConfigFault::Wrong {
+            location,
+            key,
+            reason,
+        }
     }
 }
 
 /// The value that was found, or the fault of a key.
 pub(crate) fn found<T: Drop>(
     value: Option<T>,
-    place: Place,
+    location: Location,
     key: Key,
     reason: Reason,
 ) -> Result<T, ConfigFault>
-    ensures { result ≡ found place key reason value }
+    ensures { result ≡ found location key reason value }
 {
     match value {
-        None => Err(ConfigFault::wrong(place, key, reason)),
+        None => Err(ConfigFault::wrong(location, key, reason)),
         Some(value) => Ok(value),
     }
 }
@@ -48,12 +52,16 @@ pub(crate) fn at<'a>(table: &'a Table, key: Key) -> Option<&'a Value>
 }
 
 /// The text that a value is.
-pub(crate) fn text_in<'a>(value: &'a Value, place: Place, key: Key) -> Result<&'a str, ConfigFault>
-    ensures ok { IfOk result (λ text. text_in place key (view value.entry.now) ≡ Ok text.now) }
-    ensures fault { IfErr result (λ e. text_in place key (view value.entry.now) ≡ Err e) }
+pub(crate) fn text_in<'a>(
+    value: &'a Value,
+    location: Location,
+    key: Key,
+) -> Result<&'a str, ConfigFault>
+    ensures ok { IfOk result (λ text. text_in location key (view value.entry.now) ≡ Ok text.now) }
+    ensures fault { IfErr result (λ e. text_in location key (view value.entry.now) ≡ Err e) }
 {
     match value.as_str() {
-        None => Err(ConfigFault::wrong(place, key, Reason::NotText)),
+        None => Err(ConfigFault::wrong(location, key, Reason::NotText)),
         Some(text) => Ok(text),
     }
 }
@@ -61,28 +69,28 @@ pub(crate) fn text_in<'a>(value: &'a Value, place: Place, key: Key) -> Result<&'
 /// The number that a value is, from the least to the most.
 pub(crate) fn number_in(
     value: &Value,
-    place: Place,
+    location: Location,
     key: Key,
     least: u64,
     most: u64,
 ) -> Result<u64, ConfigFault>
-    ensures { result ≡ number_in least most place key (view value.now) }
+    ensures { result ≡ number_in least most location key (view value.now) }
 {
     let Some(number) = value.as_integer() else {
-        return Err(ConfigFault::wrong(place, key, Reason::NotInteger));
+        return Err(ConfigFault::wrong(location, key, Reason::NotInteger));
     };
     if number < 0 || (number as u64) < least || number as u64 > most {
-        return Err(ConfigFault::wrong(place, key, Reason::Range { least, most }));
+        return Err(ConfigFault::wrong(location, key, Reason::Range { least, most }));
     }
     Ok(number as u64)
 }
 
 /// Whether a value is true.
-pub(crate) fn boolean_in(value: &Value, place: Place, key: Key) -> Result<bool, ConfigFault>
-    ensures { result ≡ boolean_in place key (view value.now) }
+pub(crate) fn boolean_in(value: &Value, location: Location, key: Key) -> Result<bool, ConfigFault>
+    ensures { result ≡ boolean_in location key (view value.now) }
 {
     match value.as_bool() {
-        None => Err(ConfigFault::wrong(place, key, Reason::NotBoolean)),
+        None => Err(ConfigFault::wrong(location, key, Reason::NotBoolean)),
         Some(value) => Ok(value),
     }
 }
@@ -90,14 +98,14 @@ pub(crate) fn boolean_in(value: &Value, place: Place, key: Key) -> Result<bool, 
 /// The items that a value has.
 pub(crate) fn array_in<'a>(
     value: &'a Value,
-    place: Place,
+    location: Location,
     key: Key,
 ) -> Result<&'a [Value], ConfigFault>
-    ensures ok { IfOk result (λ items. array_in place key (view value.entry.now) ≡ Ok (items_view items.now)) }
-    ensures fault { IfErr result (λ e. array_in place key (view value.entry.now) ≡ Err e) }
+    ensures ok { IfOk result (λ items. array_in location key (view value.entry.now) ≡ Ok (items_view items.now)) }
+    ensures fault { IfErr result (λ e. array_in location key (view value.entry.now) ≡ Err e) }
 {
     match value.as_array() {
-        None => Err(ConfigFault::wrong(place, key, Reason::NotArray)),
+        None => Err(ConfigFault::wrong(location, key, Reason::NotArray)),
         Some(items) => Ok(items.as_slice()),
     }
 }
@@ -105,14 +113,14 @@ pub(crate) fn array_in<'a>(
 /// The table that a value is.
 pub(crate) fn table_in<'a>(
     value: &'a Value,
-    place: Place,
+    location: Location,
     key: Key,
 ) -> Result<&'a Table, ConfigFault>
-    ensures ok { IfOk result (λ t. table_in place key (view value.entry.now) ≡ Ok (table_view t.now)) }
-    ensures fault { IfErr result (λ e. table_in place key (view value.entry.now) ≡ Err e) }
+    ensures ok { IfOk result (λ t. table_in location key (view value.entry.now) ≡ Ok (table_view t.now)) }
+    ensures fault { IfErr result (λ e. table_in location key (view value.entry.now) ≡ Err e) }
 {
     match value.as_table() {
-        None => Err(ConfigFault::wrong(place, key, Reason::NotTable)),
+        None => Err(ConfigFault::wrong(location, key, Reason::NotTable)),
         Some(table) => Ok(table),
     }
 }
@@ -120,68 +128,72 @@ pub(crate) fn table_in<'a>(
 /// The text at a key that a table needs.
 pub(crate) fn needed_text<'a>(
     table: &'a Table,
-    place: Place,
+    location: Location,
     key: Key,
 ) -> Result<&'a str, ConfigFault>
-    ensures ok { IfOk result (λ text. needed text_in place key (table_view table.entry.now) ≡ Ok text.now) }
-    ensures fault { IfErr result (λ e. needed text_in place key (table_view table.entry.now) ≡ Err e) }
+    ensures ok { IfOk result (λ text. needed text_in location key (table_view table.entry.now) ≡ Ok text.now) }
+    ensures fault { IfErr result (λ e. needed text_in location key (table_view table.entry.now) ≡ Err e) }
 {
     match at(table, key) {
-        None => Err(ConfigFault::wrong(place, key, Reason::Missing)),
-        Some(value) => text_in(value, place, key),
+        None => Err(ConfigFault::wrong(location, key, Reason::Missing)),
+        Some(value) => text_in(value, location, key),
     }
 }
 
 /// The number at a key that a table needs.
 pub(crate) fn needed_number(
     table: &Table,
-    place: Place,
+    location: Location,
     key: Key,
     least: u64,
     most: u64,
 ) -> Result<u64, ConfigFault>
-    ensures { result ≡ needed (number_in least most) place key (table_view table.now) }
+    ensures { result ≡ needed (number_in least most) location key (table_view table.now) }
 {
     match at(table, key) {
-        None => Err(ConfigFault::wrong(place, key, Reason::Missing)),
-        Some(value) => number_in(value, place, key, least, most),
+        None => Err(ConfigFault::wrong(location, key, Reason::Missing)),
+        Some(value) => number_in(value, location, key, least, most),
     }
 }
 
 /// The number at a key that a table may have.
 pub(crate) fn optional_number(
     table: &Table,
-    place: Place,
+    location: Location,
     key: Key,
     default: u64,
     least: u64,
     most: u64,
 ) -> Result<u64, ConfigFault>
-    ensures { result ≡ optional (number_in least most) default place key (table_view table.now) }
+    ensures { result ≡ optional (number_in least most) default location key (table_view table.now) }
 {
     match at(table, key) {
         None => Ok(default),
-        Some(value) => number_in(value, place, key, least, most),
+        Some(value) => number_in(value, location, key, least, most),
     }
 }
 
 // The first key that a table may not have.
-fn unknown<'a>(table: &'a Table, place: Place) -> Option<&'a String>
-    ensures { option_map (λ key. string_bytes key.now) result ≡ unknown place (table_view table.entry.now) }
+fn unknown<'a>(table: &'a Table, location: Location) -> Option<&'a String>
+    ensures { option_map (λ key. string_bytes key.now) result ≡ unknown location (table_view table.entry.now) }
 {
-    table.keys().find(|key| !place.is_known(key.as_str()))
+    table.keys().find(|key| !location.is_known(key.as_str()))
 }
 
 /// The fault of a table that has a key which it may not have.
-pub(crate) fn check_keys(alloc: Global, table: &Table, place: Place) -> Result<(), ConfigFault>
-    ensures ok { IfOk result (λ _. known place (table_view table.now) ≡ Ok (table_view table.now)) }
-    ensures fault { IfErr result (λ e. ¬ (e ≡ NoMemory) → known place (table_view table.now) ≡ Err e) }
+pub(crate) fn check_keys(
+    alloc: Global,
+    table: &Table,
+    location: Location,
+) -> Result<(), ConfigFault>
+    ensures ok { IfOk result (λ _. known location (table_view table.now) ≡ Ok (table_view table.now)) }
+    ensures fault { IfErr result (λ e. ¬ (e ≡ NoMemory) → known location (table_view table.now) ≡ Err e) }
 {
-    let Some(key) = unknown(table, place) else {
+    let Some(key) = unknown(table, location) else {
         return Ok(());
     };
     match Text::copy(alloc, key.as_str()) {
-        Ok(key) => Err(ConfigFault::Unknown { place, key }),
+        Ok(key) => Err(ConfigFault::Unknown { location, key }),
         Err(_) => Err(ConfigFault::NoMemory),
     }
 }

@@ -8,13 +8,13 @@ ghost use Rattle.share_config.specs.Reading.{needed, optional};
 ghost use Rattle.share_spellings.specs.Amounts.{rate_of, period_of, mode_of};
 ghost use Rattle.share_spellings.specs.Addresses.{address_of, peer_of, host_of, path_of, listener_of};
 ghost use Rattle.share_config.specs.declared.key.Key.TheVariants as key;
-ghost use Rattle.share_config.specs.declared.key.Place.TheVariants as place;
+ghost use Rattle.share_config.specs.declared.key.Location.TheVariants as location;
 ghost use Rattle.share_config.specs.declared.fault.Reason.TheVariants as reason;
 ghost use Rattle.share_settings.specs.declared.section.BookText.TheVariants.{Lengths};
 ghost use Rattle.share_config.specs.declared.fault.ConfigFault.TheVariants.{NoMemory};
 
 use crate::fault::{ConfigFault, Reason};
-use crate::key::{Key, Place};
+use crate::key::{Key, Location};
 use crate::reading::{at, check_keys, found, needed_text, optional_number, text_in};
 use share_settings::{BookText, Books, Control, Downlink, Listener, Peer, Text, Uplink, Web};
 use share_spellings::{
@@ -35,12 +35,12 @@ pub(crate) fn uplink(alloc: Global, table: &Table) -> Result<Uplink, ConfigFault
     ensures ok { IfOk result (λ uplink. uplink_of (table_view table.now) ≡ Ok uplink) }
     ensures fault { IfErr result (λ e. ¬ (e ≡ NoMemory) → uplink_of (table_view table.now) ≡ Err e) }
 {
-    check_keys(alloc, table, Place::Uplink)?;
-    let to = peer(table, Place::Uplink, Key::Connect)?;
+    check_keys(alloc, table, Location::Uplink)?;
+    let to = peer(table, Location::Uplink, Key::Connect)?;
     let rate = paced(to, given_rate(table)?)?;
     let buffer = optional_number(
         table,
-        Place::Uplink,
+        Location::Uplink,
         Key::Buffer,
         262_144,
         16384,
@@ -50,25 +50,26 @@ pub(crate) fn uplink(alloc: Global, table: &Table) -> Result<Uplink, ConfigFault
 }
 
 // The peer at a key.
-fn peer(table: &Table, place: Place, key: Key) -> Result<Peer, ConfigFault>
-    ensures ok { IfOk result (λ to. needed (value_in peer_of reason.Peer) place key (table_view table.now) ≡ Ok to) }
-    ensures fault { IfErr result (λ e. needed (value_in peer_of reason.Peer) place key (table_view table.now) ≡ Err e) }
+fn peer(table: &Table, location: Location, key: Key) -> Result<Peer, ConfigFault>
+    ensures ok { IfOk result (λ to. needed (value_in peer_of reason.Peer) location key (table_view table.now) ≡ Ok to) }
+    ensures fault { IfErr result
+        (λ e. needed (value_in peer_of reason.Peer) location key (table_view table.now) ≡ Err e) }
 {
-    match needed_text(table, place, key) {
+    match needed_text(table, location, key) {
         Err(fault) => Err(fault),
-        Ok(text) => found(read_peer(text), place, key, Reason::Peer),
+        Ok(text) => found(read_peer(text), location, key, Reason::Peer),
     }
 }
 
 // The rate that the table of an uplink gives.
 fn given_rate(table: &Table) -> Result<Option<u64>, ConfigFault>
-    ensures { result ≡ optional (some_in rate_of reason.Rate) None place.Uplink key.Rate (table_view table.now) }
+    ensures { result ≡ optional (some_in rate_of reason.Rate) None location.Uplink key.Rate (table_view table.now) }
 {
     let Some(value) = at(table, Key::Rate) else {
         return Ok(None);
     };
-    let text = text_in(value, Place::Uplink, Key::Rate)?;
-    let rate = found(read_rate(text), Place::Uplink, Key::Rate, Reason::Rate)?;
+    let text = text_in(value, Location::Uplink, Key::Rate)?;
+    let rate = found(read_rate(text), Location::Uplink, Key::Rate, Reason::Rate)?;
     Ok(Some(rate))
 }
 
@@ -77,7 +78,11 @@ fn paced(to: Peer, rate: Option<u64>) -> Result<Option<u64>, ConfigFault>
     ensures { result ≡ paced to rate }
 {
     match (to, rate) {
-        (Peer::Udp(_), None) => Err(ConfigFault::wrong(Place::Uplink, Key::Rate, Reason::NoRate)),
+        (Peer::Udp(_), None) => Err(ConfigFault::wrong(
+            Location::Uplink,
+            Key::Rate,
+            Reason::NoRate,
+        )),
         _ => Ok(rate),
     }
 }
@@ -87,12 +92,12 @@ pub(crate) fn books(alloc: Global, table: &Table) -> Result<Books, ConfigFault>
     ensures ok { IfOk result (λ books. books_of (table_view table.now) ≡ Ok books) }
     ensures fault { IfErr result (λ e. ¬ (e ≡ NoMemory) → books_of (table_view table.now) ≡ Err e) }
 {
-    check_keys(alloc, table, Place::Books)?;
+    check_keys(alloc, table, Location::Books)?;
     let folder = folder(alloc, table)?;
     let text = book_text(table)?;
     let events = optional_number(
         table,
-        Place::Books,
+        Location::Books,
         Key::Events,
         16_777_216,
         131_072,
@@ -110,29 +115,29 @@ pub(crate) fn books(alloc: Global, table: &Table) -> Result<Books, ConfigFault>
 // The folder of the books.
 fn folder(alloc: Global, table: &Table) -> Result<Text, ConfigFault>
     ensures ok { IfOk result (λ path.
-        needed (value_in (path_of 4095) reason.Folder) place.Books key.Folder (table_view table.now) ≡ Ok path) }
+        needed (value_in (path_of 4095) reason.Folder) location.Books key.Folder (table_view table.now) ≡ Ok path) }
     ensures fault { IfErr result (λ e. ¬ (e ≡ NoMemory)
-        → needed (value_in (path_of 4095) reason.Folder) place.Books key.Folder (table_view table.now) ≡ Err e) }
+        → needed (value_in (path_of 4095) reason.Folder) location.Books key.Folder (table_view table.now) ≡ Err e) }
 {
-    let text = needed_text(table, Place::Books, Key::Folder)?;
+    let text = needed_text(table, Location::Books, Key::Folder)?;
     match read_path(alloc, text, MAX_FOLDER) {
         Err(_) => Err(ConfigFault::NoMemory),
-        Ok(path) => found(path, Place::Books, Key::Folder, Reason::Folder),
+        Ok(path) => found(path, Location::Books, Key::Folder, Reason::Folder),
     }
 }
 
 // The content of the text of a book.
 fn book_text(table: &Table) -> Result<BookText, ConfigFault>
     ensures { result
-        ≡ optional (value_in book_text_of reason.BookText) Lengths place.Books key.Text (table_view table.now) }
+        ≡ optional (value_in book_text_of reason.BookText) Lengths location.Books key.Text (table_view table.now) }
 {
     let Some(value) = at(table, Key::Text) else {
         return Ok(BookText::Lengths);
     };
-    let text = text_in(value, Place::Books, Key::Text)?;
+    let text = text_in(value, Location::Books, Key::Text)?;
     found(
         read_book_text(text.as_bytes()),
-        Place::Books,
+        Location::Books,
         Key::Text,
         Reason::BookText,
     )
@@ -152,13 +157,19 @@ fn read_book_text(text: &[u8]) -> Option<BookText>
 
 // The period of a book.
 fn period(table: &Table) -> Result<Option<u64>, ConfigFault>
-    ensures { result ≡ optional (some_in period_of reason.Period) None place.Books key.Period (table_view table.now) }
+    ensures { result
+        ≡ optional (some_in period_of reason.Period) None location.Books key.Period (table_view table.now) }
 {
     let Some(value) = at(table, Key::Period) else {
         return Ok(None);
     };
-    let text = text_in(value, Place::Books, Key::Period)?;
-    let period = found(read_period(text), Place::Books, Key::Period, Reason::Period)?;
+    let text = text_in(value, Location::Books, Key::Period)?;
+    let period = found(
+        read_period(text),
+        Location::Books,
+        Key::Period,
+        Reason::Period,
+    )?;
     Ok(Some(period))
 }
 
@@ -167,34 +178,35 @@ pub(crate) fn control(alloc: Global, table: &Table) -> Result<Control, ConfigFau
     ensures ok { IfOk result (λ control. control_of (table_view table.now) ≡ Ok control) }
     ensures fault { IfErr result (λ e. ¬ (e ≡ NoMemory) → control_of (table_view table.now) ≡ Err e) }
 {
-    check_keys(alloc, table, Place::Control)?;
+    check_keys(alloc, table, Location::Control)?;
     let listen = control_listener(alloc, table)?;
-    let mode = mode(table, Place::Control)?;
+    let mode = mode(table, Location::Control)?;
     Ok(Control { listen, mode })
 }
 
 fn control_listener(alloc: Global, table: &Table) -> Result<Listener, ConfigFault>
     ensures ok { IfOk result (λ listener.
-        needed (value_in listener_of reason.Listener) place.Control key.Listen (table_view table.now) ≡ Ok listener) }
+        needed (value_in listener_of reason.Listener) location.Control key.Listen (table_view table.now)
+        ≡ Ok listener) }
     ensures fault { IfErr result (λ e. ¬ (e ≡ NoMemory)
-        → needed (value_in listener_of reason.Listener) place.Control key.Listen (table_view table.now) ≡ Err e) }
+        → needed (value_in listener_of reason.Listener) location.Control key.Listen (table_view table.now) ≡ Err e) }
 {
-    let text = needed_text(table, Place::Control, Key::Listen)?;
+    let text = needed_text(table, Location::Control, Key::Listen)?;
     match read_listener(alloc, text) {
         Err(_) => Err(ConfigFault::NoMemory),
-        Ok(listener) => found(listener, Place::Control, Key::Listen, Reason::Listener),
+        Ok(listener) => found(listener, Location::Control, Key::Listen, Reason::Listener),
     }
 }
 
 /// The mode of the Unix sockets of a table.
-pub(crate) fn mode(table: &Table, place: Place) -> Result<u32, ConfigFault>
-    ensures { result ≡ mode_at place (table_view table.now) }
+pub(crate) fn mode(table: &Table, location: Location) -> Result<u32, ConfigFault>
+    ensures { result ≡ mode_at location (table_view table.now) }
 {
     let Some(value) = at(table, Key::Mode) else {
         return Ok(DEFAULT_MODE);
     };
-    let text = text_in(value, place, Key::Mode)?;
-    found(read_mode(text), place, Key::Mode, Reason::Mode)
+    let text = text_in(value, location, Key::Mode)?;
+    found(read_mode(text), location, Key::Mode, Reason::Mode)
 }
 
 /// The downlink of its table.
@@ -202,21 +214,21 @@ pub(crate) fn downlink(alloc: Global, table: &Table) -> Result<Downlink, ConfigF
     ensures ok { IfOk result (λ downlink. downlink_of (table_view table.now) ≡ Ok downlink) }
     ensures fault { IfErr result (λ e. ¬ (e ≡ NoMemory) → downlink_of (table_view table.now) ≡ Err e) }
 {
-    check_keys(alloc, table, Place::Downlink)?;
-    let listen = peer(table, Place::Downlink, Key::Listen)?;
+    check_keys(alloc, table, Location::Downlink)?;
+    let listen = peer(table, Location::Downlink, Key::Listen)?;
     let from = from(table)?;
     Ok(Downlink { listen, from })
 }
 
 // The address from which alone connections are taken.
 fn from(table: &Table) -> Result<Option<IpAddr>, ConfigFault>
-    ensures { result ≡ optional (some_in host_of reason.Host) None place.Downlink key.From (table_view table.now) }
+    ensures { result ≡ optional (some_in host_of reason.Host) None location.Downlink key.From (table_view table.now) }
 {
     let Some(value) = at(table, Key::From) else {
         return Ok(None);
     };
-    let text = text_in(value, Place::Downlink, Key::From)?;
-    let from = found(read_host(text), Place::Downlink, Key::From, Reason::Host)?;
+    let text = text_in(value, Location::Downlink, Key::From)?;
+    let from = found(read_host(text), Location::Downlink, Key::From, Reason::Host)?;
     Ok(Some(from))
 }
 
@@ -225,19 +237,24 @@ pub(crate) fn web(alloc: Global, table: &Table) -> Result<Web, ConfigFault>
     ensures ok { IfOk result (λ web. web_of (table_view table.now) ≡ Ok web) }
     ensures fault { IfErr result (λ e. ¬ (e ≡ NoMemory) → web_of (table_view table.now) ≡ Err e) }
 {
-    check_keys(alloc, table, Place::Web)?;
+    check_keys(alloc, table, Location::Web)?;
     let listen = web_address(table)?;
     Ok(Web { listen })
 }
 
 fn web_address(table: &Table) -> Result<SocketAddr, ConfigFault>
     ensures ok { IfOk result (λ address.
-        needed (value_in address_of reason.Address) place.Web key.Listen (table_view table.now) ≡ Ok address) }
+        needed (value_in address_of reason.Address) location.Web key.Listen (table_view table.now) ≡ Ok address) }
     ensures fault { IfErr result (λ e.
-        needed (value_in address_of reason.Address) place.Web key.Listen (table_view table.now) ≡ Err e) }
+        needed (value_in address_of reason.Address) location.Web key.Listen (table_view table.now) ≡ Err e) }
 {
-    match needed_text(table, Place::Web, Key::Listen) {
+    match needed_text(table, Location::Web, Key::Listen) {
         Err(fault) => Err(fault),
-        Ok(text) => found(read_address(text), Place::Web, Key::Listen, Reason::Address),
+        Ok(text) => found(
+            read_address(text),
+            Location::Web,
+            Key::Listen,
+            Reason::Address,
+        ),
     }
 }

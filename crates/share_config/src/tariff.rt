@@ -6,7 +6,7 @@ ghost use Rattle.share_config.specs.declared.fault.ConfigFault.TheVariants.{NoMe
 
 use crate::entry::{Entry, read_all};
 use crate::fault::{ConfigFault, Reason};
-use crate::key::{Key, Place};
+use crate::key::{Key, Location};
 use crate::reading::{array_in, at, check_keys, needed_number, table_in};
 use share_model::Rate;
 use std::alloc::Global;
@@ -22,16 +22,16 @@ impl Entry for Rate {
 
     fn read(
         alloc: Global,
-        _place: Place,
+        _location: Location,
         number: usize,
         value: &Value,
     ) -> Result<Rate, ConfigFault> {
-        let table = table_in(value, Place::File, Key::Tariff)?;
-        let place = Place::Tariff(number);
-        check_keys(alloc, table, place)?;
-        let cell = needed_number(table, place, Key::Cell, 1, 2048)?;
-        let overhead = needed_number(table, place, Key::Overhead, 0, 1024)?;
-        let price = needed_number(table, place, Key::Price, 0, 65535)?;
+        let table = table_in(value, Location::File, Key::Tariff)?;
+        let location = Location::Tariff(number);
+        check_keys(alloc, table, location)?;
+        let cell = needed_number(table, location, Key::Cell, 1, 2048)?;
+        let overhead = needed_number(table, location, Key::Overhead, 0, 1024)?;
+        let price = needed_number(table, location, Key::Price, 0, 65535)?;
         Ok(Rate {
             cell,
             overhead,
@@ -47,7 +47,7 @@ pub(crate) fn tariffs(alloc: Global, table: &Table) -> Result<Vec<Rate>, ConfigF
 {
     match at(table, Key::Tariff) {
         None => default_tariffs(alloc),
-        Some(value) => some_tariffs(alloc, array_in(value, Place::File, Key::Tariff)?),
+        Some(value) => some_tariffs(alloc, array_in(value, Location::File, Key::Tariff)?),
     }
 }
 
@@ -60,12 +60,12 @@ fn some_tariffs(alloc: Global, values: &[Value]) -> Result<Vec<Rate>, ConfigFaul
     }
     if values.len() > MAX_TARIFFS {
         return Err(ConfigFault::wrong(
-            Place::File,
+            Location::File,
             Key::Tariff,
             Reason::TooMany { most: MAX_TARIFFS },
         ));
     }
-    read_all::<Rate>(alloc, Place::File, values)
+    read_all::<Rate>(alloc, Location::File, values)
 }
 
 // Cell, overhead and price of the tariffs of a file that gives none.

@@ -3,7 +3,7 @@ ghost use Rattle.std.specs.Prelude.{◌≡◌, IfOk, IfErr, Ok, Err, false};
 ghost use Rattle.toml.specs.View.{table_view};
 ghost use Rattle.share_config.specs.Sections.{value_in};
 ghost use Rattle.share_config.specs.Reading.{needed, optional, boolean_in};
-ghost use Rattle.share_config.specs.Tenants.{ticket_place, ticket_at, tickets_at, currency_at, flow_at, tenant_at};
+ghost use Rattle.share_config.specs.Tenants.{ticket_location, ticket_at, tickets_at, currency_at, flow_at, tenant_at};
 ghost use Rattle.share_config.specs.Tenants.{ports_at};
 ghost use Rattle.share_config.specs.Tenants.{name_of};
 ghost use Rattle.share_config.specs.declared.key.Key.TheVariants as key;
@@ -12,7 +12,7 @@ ghost use Rattle.share_config.specs.declared.fault.ConfigFault.TheVariants.{NoMe
 
 use crate::entry::{Entry, read_all};
 use crate::fault::{ConfigFault, Reason};
-use crate::key::{Key, Place};
+use crate::key::{Key, Location};
 use crate::reading::{
     array_in, at, boolean_in, check_keys, found, needed_number, needed_text, number_in,
     optional_number, table_in, text_in,
@@ -32,50 +32,50 @@ impl Entry for Grant {
 
     fn read(
         alloc: Global,
-        place: Place,
+        location: Location,
         number: usize,
         value: &Value,
     ) -> Result<Grant, ConfigFault> {
-        let table = table_in(value, place, Key::Tickets)?;
-        ticket(alloc, table, ticket_place(place, number))
+        let table = table_in(value, location, Key::Tickets)?;
+        ticket(alloc, table, ticket_location(location, number))
     }
 }
 
 // The table of a ticket of a currency or a tenant.
-fn ticket_place(place: Place, ticket: usize) -> Place
-    ensures { result ≡ ticket_place place ticket }
+fn ticket_location(location: Location, ticket: usize) -> Location
+    ensures { result ≡ ticket_location location ticket }
 {
-    match place {
-        Place::Currency(currency) => Place::CurrencyTicket { currency, ticket },
-        Place::Tenant(tenant) => Place::TenantTicket { tenant, ticket },
-        _ => place,
+    match location {
+        Location::Currency(currency) => Location::CurrencyTicket { currency, ticket },
+        Location::Tenant(tenant) => Location::TenantTicket { tenant, ticket },
+        _ => location,
     }
 }
 
-fn ticket(alloc: Global, table: &Table, place: Place) -> Result<Grant, ConfigFault>
-    ensures ok { IfOk result (λ grant. ticket_at place (table_view table.now) ≡ Ok grant) }
-    ensures fault { IfErr result (λ e. ¬ (e ≡ NoMemory) → ticket_at place (table_view table.now) ≡ Err e) }
+fn ticket(alloc: Global, table: &Table, location: Location) -> Result<Grant, ConfigFault>
+    ensures ok { IfOk result (λ grant. ticket_at location (table_view table.now) ≡ Ok grant) }
+    ensures fault { IfErr result (λ e. ¬ (e ≡ NoMemory) → ticket_at location (table_view table.now) ≡ Err e) }
 {
-    check_keys(alloc, table, place)?;
-    let amount = needed_number(table, place, Key::Amount, 1, 1_048_576)?;
+    check_keys(alloc, table, location)?;
+    let amount = needed_number(table, location, Key::Amount, 1, 1_048_576)?;
     let text = match at(table, Key::Of) {
         None => "base",
-        Some(value) => text_in(value, place, Key::Of)?,
+        Some(value) => text_in(value, location, Key::Of)?,
     };
-    let denomination = found(Name::read(text.as_bytes()), place, Key::Of, Reason::Name)?;
+    let denomination = found(Name::read(text.as_bytes()), location, Key::Of, Reason::Name)?;
     Ok(Grant {
         amount,
         denomination,
     })
 }
 
-fn tickets(alloc: Global, table: &Table, place: Place) -> Result<Vec<Grant>, ConfigFault>
-    ensures ok { IfOk result (λ grants. tickets_at place (table_view table.now) ≡ Ok grants.items) }
-    ensures fault { IfErr result (λ e. ¬ (e ≡ NoMemory) → tickets_at place (table_view table.now) ≡ Err e) }
+fn tickets(alloc: Global, table: &Table, location: Location) -> Result<Vec<Grant>, ConfigFault>
+    ensures ok { IfOk result (λ grants. tickets_at location (table_view table.now) ≡ Ok grants.items) }
+    ensures fault { IfErr result (λ e. ¬ (e ≡ NoMemory) → tickets_at location (table_view table.now) ≡ Err e) }
 {
     match at(table, Key::Tickets) {
         None => Ok(Vec::new(alloc)),
-        Some(value) => read_all::<Grant>(alloc, place, array_in(value, place, Key::Tickets)?),
+        Some(value) => read_all::<Grant>(alloc, location, array_in(value, location, Key::Tickets)?),
     }
 }
 
@@ -86,31 +86,36 @@ impl Entry for Currency {
 
     fn read(
         alloc: Global,
-        place: Place,
+        location: Location,
         number: usize,
         value: &Value,
     ) -> Result<Currency, ConfigFault> {
-        let table = table_in(value, place, Key::Currency)?;
-        currency(alloc, table, Place::Currency(number))
+        let table = table_in(value, location, Key::Currency)?;
+        currency(alloc, table, Location::Currency(number))
     }
 }
 
-fn currency(alloc: Global, table: &Table, place: Place) -> Result<Currency, ConfigFault>
-    ensures ok { IfOk result (λ currency. currency_at place (table_view table.now) ≡ Ok currency) }
-    ensures fault { IfErr result (λ e. ¬ (e ≡ NoMemory) → currency_at place (table_view table.now) ≡ Err e) }
+fn currency(alloc: Global, table: &Table, location: Location) -> Result<Currency, ConfigFault>
+    ensures ok { IfOk result (λ currency. currency_at location (table_view table.now) ≡ Ok currency) }
+    ensures fault { IfErr result (λ e. ¬ (e ≡ NoMemory) → currency_at location (table_view table.now) ≡ Err e) }
 {
-    check_keys(alloc, table, place)?;
-    let name = name(table, place)?;
-    let grants = tickets(alloc, table, place)?;
+    check_keys(alloc, table, location)?;
+    let name = name(table, location)?;
+    let grants = tickets(alloc, table, location)?;
     Ok(Currency { name, grants })
 }
 
 // The name of a currency or a tenant.
-fn name(table: &Table, place: Place) -> Result<Name, ConfigFault>
-    ensures { result ≡ needed (value_in name_of reason.Name) place key.Name (table_view table.now) }
+fn name(table: &Table, location: Location) -> Result<Name, ConfigFault>
+    ensures { result ≡ needed (value_in name_of reason.Name) location key.Name (table_view table.now) }
 {
-    let text = needed_text(table, place, Key::Name)?;
-    found(Name::read(text.as_bytes()), place, Key::Name, Reason::Name)
+    let text = needed_text(table, location, Key::Name)?;
+    found(
+        Name::read(text.as_bytes()),
+        location,
+        Key::Name,
+        Reason::Name,
+    )
 }
 
 impl Entry for Tenant {
@@ -120,11 +125,11 @@ impl Entry for Tenant {
 
     fn read(
         alloc: Global,
-        place: Place,
+        location: Location,
         number: usize,
         value: &Value,
     ) -> Result<Tenant, ConfigFault> {
-        let table = table_in(value, place, Key::Tenant)?;
+        let table = table_in(value, location, Key::Tenant)?;
         tenant(alloc, table, number)
     }
 }
@@ -133,14 +138,14 @@ fn tenant(alloc: Global, table: &Table, number: usize) -> Result<Tenant, ConfigF
     ensures ok { IfOk result (λ tenant. tenant_at number (table_view table.now) ≡ Ok tenant) }
     ensures fault { IfErr result (λ e. ¬ (e ≡ NoMemory) → tenant_at number (table_view table.now) ≡ Err e) }
 {
-    let place = Place::Tenant(number);
-    check_keys(alloc, table, place)?;
-    let name = name(table, place)?;
+    let location = Location::Tenant(number);
+    check_keys(alloc, table, location)?;
+    let name = name(table, location)?;
     let flow = flow(table, number)?;
-    let limit = optional_number(table, place, Key::Packets, 256, 1, 1024)?;
-    let tariff = optional_number(table, place, Key::Tariff, 1, 1, 8)?;
-    let held = held(table, place)?;
-    let grants = tickets(alloc, table, place)?;
+    let limit = optional_number(table, location, Key::Packets, 256, 1, 1024)?;
+    let tariff = optional_number(table, location, Key::Tariff, 1, 1, 8)?;
+    let held = held(table, location)?;
+    let grants = tickets(alloc, table, location)?;
     Ok(Tenant {
         name,
         flow,
@@ -155,14 +160,14 @@ fn tenant(alloc: Global, table: &Table, number: usize) -> Result<Tenant, ConfigF
 fn flow(table: &Table, number: usize) -> Result<u32, ConfigFault>
     ensures { result ≡ flow_at number (table_view table.now) }
 {
-    let place = Place::Tenant(number);
+    let location = Location::Tenant(number);
     let flow = match at(table, Key::Flow) {
         None => number as u64,
-        Some(value) => number_in(value, place, Key::Flow, 1, 1024)?,
+        Some(value) => number_in(value, location, Key::Flow, 1, 1024)?,
     };
     if flow > 1024 {
         return Err(ConfigFault::wrong(
-            place,
+            location,
             Key::Flow,
             Reason::Range {
                 least: 1,
@@ -174,12 +179,12 @@ fn flow(table: &Table, number: usize) -> Result<u32, ConfigFault>
 }
 
 // Whether a tenant is held.
-fn held(table: &Table, place: Place) -> Result<bool, ConfigFault>
-    ensures { result ≡ optional boolean_in false place key.Held (table_view table.now) }
+fn held(table: &Table, location: Location) -> Result<bool, ConfigFault>
+    ensures { result ≡ optional boolean_in false location key.Held (table_view table.now) }
 {
     match at(table, Key::Held) {
         None => Ok(false),
-        Some(value) => boolean_in(value, place, Key::Held),
+        Some(value) => boolean_in(value, location, Key::Held),
     }
 }
 
@@ -190,24 +195,24 @@ impl Entry for TenantPorts {
 
     fn read(
         alloc: Global,
-        place: Place,
+        location: Location,
         number: usize,
         value: &Value,
     ) -> Result<TenantPorts, ConfigFault> {
-        let table = table_in(value, place, Key::Tenant)?;
-        ports(alloc, table, Place::Tenant(number))
+        let table = table_in(value, location, Key::Tenant)?;
+        ports(alloc, table, Location::Tenant(number))
     }
 }
 
-fn ports(alloc: Global, table: &Table, place: Place) -> Result<TenantPorts, ConfigFault>
-    ensures ok { IfOk result (λ ports. ports_at place (table_view table.now) ≡ Ok ports) }
-    ensures fault { IfErr result (λ e. ¬ (e ≡ NoMemory) → ports_at place (table_view table.now) ≡ Err e) }
+fn ports(alloc: Global, table: &Table, location: Location) -> Result<TenantPorts, ConfigFault>
+    ensures ok { IfOk result (λ ports. ports_at location (table_view table.now) ≡ Ok ports) }
+    ensures fault { IfErr result (λ e. ¬ (e ≡ NoMemory) → ports_at location (table_view table.now) ≡ Err e) }
 {
     let ports = match at(table, Key::Port) {
         None => Vec::new(alloc),
-        Some(value) => read_all::<Port>(alloc, place, array_in(value, place, Key::Port)?)?,
+        Some(value) => read_all::<Port>(alloc, location, array_in(value, location, Key::Port)?)?,
     };
-    let mode = mode(table, place)?;
+    let mode = mode(table, location)?;
     Ok(TenantPorts { ports, mode })
 }
 
@@ -218,14 +223,14 @@ impl Entry for Port {
 
     fn read(
         alloc: Global,
-        place: Place,
+        location: Location,
         number: usize,
         value: &Value,
     ) -> Result<Port, ConfigFault> {
-        let text = text_in(value, place, Key::Port)?;
+        let text = text_in(value, location, Key::Port)?;
         match read_port(alloc, text) {
             Err(_) => Err(ConfigFault::NoMemory),
-            Ok(port) => found(port, place, Key::Port, Reason::Port { number }),
+            Ok(port) => found(port, location, Key::Port, Reason::Port { number }),
         }
     }
 }

@@ -1,7 +1,7 @@
 //! The connections that are open, and how they are ended.
 
 use crate::reason::Reason;
-use crate::uplink::Wire;
+use crate::uplink::UplinkSocket;
 use share_locked::{Attendant, Pace, Stop};
 use std::alloc::{AllocError, Global};
 use std::fmt::Display;
@@ -13,11 +13,11 @@ use std::thread::Threads;
 use std::time::Duration;
 use std::{io, thread};
 
-/// The number of rests that a reply, or a write call on the uplink, may wait once the end has begun.
+/// The number of pauses that a reply, or a write call on the uplink, may wait once the end has begun.
 const GRACE: u64 = 50;
 
-/// The length of a rest in milliseconds.
-const REST: u64 = 100;
+/// The length of a pause in milliseconds.
+const PAUSE: u64 = 100;
 
 /// The most bytes that a connection gives once the end has begun.
 const LAST_BYTES: usize = 1 << 24;
@@ -51,16 +51,16 @@ pub struct Connections {
     // Notified when a connection is over.
     closed: Condvar,
     listening: Listening,
-    wire: Arc<Wire>,
+    socket: Arc<UplinkSocket>,
     // Set when no more connections are accepted, and those that are open give only what has come.
     ending: Stop,
     // Set when the link has stopped taking offers.
-    link_ended: Stop,
+    ingress_closed: Stop,
     pace: Pace,
     // Set when nothing is left to watch.
     over: Stop,
     // Set when the loss of the uplink was printed.
-    loss_told: Stop,
+    loss_logged: Stop,
     // Why a connection could not be accepted.
     accept_fault: Mutex<Option<io::Error>>,
     is_verbose: bool,
@@ -91,7 +91,7 @@ impl Connections {
     pub fn new(
         alloc: Global,
         listening: Listening,
-        wire: Arc<Wire>,
+        socket: Arc<UplinkSocket>,
         pace: Pace,
         room: usize,
         is_verbose: bool,
@@ -101,19 +101,19 @@ impl Connections {
             open: Mutex::new(open),
             closed: Condvar::new(),
             listening,
-            wire,
+            socket,
             ending: Stop::new(),
-            link_ended: Stop::new(),
+            ingress_closed: Stop::new(),
             pace,
             over: Stop::new(),
-            loss_told: Stop::new(),
+            loss_logged: Stop::new(),
             accept_fault: Mutex::new(None),
             is_verbose,
         })
     }
 
     /// Writes a line to standard error, if that is wanted.
-    pub fn tell<R: Eprint, D: Display + Drop>(&self, rt: &R, line: D) {
+    pub fn log<R: Eprint, D: Display + Drop>(&self, rt: &R, line: D) {
         if self.is_verbose {
             let _ = rt.eprintln(line);
         }
@@ -124,8 +124,8 @@ impl Connections {
         self.is_verbose
     }
 
-    pub fn wire(&self) -> &Wire {
-        &self.wire
+    pub fn socket(&self) -> &UplinkSocket {
+        &self.socket
     }
 
     /// The pace of the link.
@@ -139,8 +139,8 @@ impl Connections {
     }
 
     /// Whether the link has stopped taking offers.
-    pub fn has_link_ended(&self) -> bool {
-        self.link_ended.is_set()
+    pub fn is_ingress_closed(&self) -> bool {
+        self.ingress_closed.is_set()
     }
 
     /// Adds a connection, and ends it at once if it has to. Returns false if there was no memory for it.
@@ -149,7 +149,7 @@ impl Connections {
         if self.ending.is_set() {
             let _ = stream.shutdown(Shutdown::Read);
         }
-        if self.link_ended.is_set() && kind == Kind::Ingress {
+        if self.ingress_closed.is_set() && kind == Kind::Ingress {
             let _ = stream.shutdown(Shutdown::Both);
         }
         open.push(Open {
@@ -163,7 +163,7 @@ impl Connections {
     /// A connection could not be accepted. Prints the reason, and keeps it.
     pub fn not_accepted<R: Wait + Eprint>(&self, rt: &R, fault: io::Error) {
         let reason = Reason(fault);
-        self.tell(rt, format_args!("cannot accept a connection: {reason}"));
+        self.log(rt, format_args!("cannot accept a connection: {reason}"));
         *self.accept_fault.lock(rt) = Some(fault);
     }
 
@@ -196,25 +196,25 @@ impl Connections {
     }
 
     /// Ends the ingress connections, since the link has stopped taking offers.
-    pub fn end_link<R: Wait>(&self, rt: &R) {
-        self.link_ended.set();
+    pub fn close_ingress<R: Wait>(&self, rt: &R) {
+        self.ingress_closed.set();
         self.shut(rt, Kind::Ingress, Shutdown::Both);
     }
 
     /// Begins the end: no more connections are accepted, and those that are open give only what has come.
-    pub fn end<R: Wait>(&self, rt: &R) {
+    pub fn begin_shutdown<R: Wait>(&self, rt: &R) {
         self.ending.set();
         self.listening.shut();
         self.shut(rt, Kind::Control, Shutdown::Read);
         self.shut(rt, Kind::Ingress, Shutdown::Read);
         self.pace.hurry();
-        self.wire.watcher().unpark();
+        self.socket.watcher().unpark();
     }
 
     /// Ends the watch, since nothing is left to watch.
     pub fn end_watch(&self) {
         self.over.set();
-        self.wire.watcher().unpark();
+        self.socket.watcher().unpark();
     }
 
     /// Watches the uplink until nothing is left to watch, and prints its loss. From the beginning of the end on it ends
@@ -222,7 +222,7 @@ impl Connections {
     pub fn watch<R: Wait + Eprint>(&self, rt: &R) {
         self.watch_until_end(rt);
         self.watch_end(rt);
-        self.tell_loss(rt);
+        self.log_loss(rt);
     }
 
     // Waits until the end begins, or nothing is left to watch. It prints that the uplink takes nothing, once for each
@@ -234,13 +234,13 @@ impl Connections {
             if self.ending.is_set() || self.over.is_set() {
                 return;
             }
-            self.wire
+            self.socket
                 .watcher()
-                .park_timeout(rt, Duration::from_millis(GRACE * REST));
-            self.tell_loss(rt);
-            let now = self.wire.steps();
+                .park_timeout(rt, Duration::from_millis(GRACE * PAUSE));
+            self.log_loss(rt);
+            let now = self.socket.steps();
             if now == steps && now % 2 == 1 && now != told {
-                self.tell(rt, "waiting for the uplink, which takes nothing");
+                self.log(rt, "waiting for the uplink, which takes nothing");
                 told = now;
             }
             steps = now;
@@ -248,60 +248,60 @@ impl Connections {
     }
 
     // Prints that the uplink is lost, once.
-    fn tell_loss<R: Eprint>(&self, rt: &R) {
-        if self.loss_told.is_set() {
+    fn log_loss<R: Eprint>(&self, rt: &R) {
+        if self.loss_logged.is_set() {
             return;
         }
-        if let Some(fault) = self.wire.fault() {
-            self.loss_told.set();
+        if let Some(fault) = self.socket.fault() {
+            self.loss_logged.set();
             let reason = Reason(fault);
-            self.tell(rt, format_args!("the uplink is lost: {reason}"));
+            self.log(rt, format_args!("the uplink is lost: {reason}"));
         }
     }
 
     // From the beginning of the end on: ends replies that are not written in time, and an uplink that takes nothing for
     // as long.
     fn watch_end<R: Wait + Eprint>(&self, rt: &R) {
-        let mut steps = self.wire.steps();
-        if self.rest(rt) {
+        let mut steps = self.socket.steps();
+        if self.pause(rt) {
             return;
         }
         self.shut(rt, Kind::Control, Shutdown::Both);
         for _ in rt.forever() {
-            let now = self.wire.steps();
+            let now = self.socket.steps();
             if now == steps && now % 2 == 1 {
-                self.tell(rt, "the uplink takes nothing, and is ended");
-                self.wire.tear();
+                self.log(rt, "the uplink takes nothing, and is ended");
+                self.socket.tear();
             }
             steps = now;
-            if self.rest(rt) {
+            if self.pause(rt) {
                 return;
             }
         }
     }
 
-    // Waits for `GRACE` rests, or until nothing is left to watch. Returns true if nothing is.
-    fn rest<R: Wait + Eprint>(&self, rt: &R) -> bool {
+    // Waits for `GRACE` pauses, or until nothing is left to watch. Returns true if nothing is.
+    fn pause<R: Wait + Eprint>(&self, rt: &R) -> bool {
         for _ in 0..GRACE {
             if self.over.is_set() {
                 return true;
             }
-            self.wire
+            self.socket
                 .watcher()
-                .park_timeout(rt, Duration::from_millis(REST));
-            self.tell_loss(rt);
+                .park_timeout(rt, Duration::from_millis(PAUSE));
+            self.log_loss(rt);
         }
         self.over.is_set()
     }
 }
 
 impl Attendant for Connections {
-    fn rests(&self) {
-        self.wire.push();
+    fn idles(&self) {
+        self.socket.push();
     }
 
     fn ends<R: Wait>(&self, rt: &R) {
-        self.end_link(rt);
+        self.close_ingress(rt);
     }
 }
 
@@ -318,8 +318,8 @@ fn end_at_end<R: Wait + Eprint, I: Read + Drop>(rt: &R, input: I, connections: &
         }
     }
     drop(input);
-    connections.tell(rt, "standard input has ended");
-    connections.end(rt);
+    connections.log(rt, "standard input has ended");
+    connections.begin_shutdown(rt);
 }
 
 /// Starts a thread, which nobody waits for, that ends the connections at the end of standard input. Returns false if

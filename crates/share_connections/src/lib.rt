@@ -7,4 +7,4 @@ mod uplink;
 
 pub use connections::{ConnectionReader, Connections, Kind, Listening, end_at_eof};
 pub use reason::Reason;
-pub use uplink::{Uplink, Wire};
+pub use uplink::{Uplink, UplinkSocket};

@@ -31,7 +31,7 @@ const TIMED_OUT: i32 = -2;
 /// The connection, and two counts. One is the number of times that a write call on it began or ended, which is odd
 /// during a call. The other is the number of calls that began since the last push.
 #[derive(Drop)]
-pub struct Wire {
+pub struct UplinkSocket {
     stream: TcpStream,
     steps: AtomicU64,
     busy: AtomicU64,
@@ -45,12 +45,12 @@ pub struct Wire {
 /// The writer of the link. Its offers are write calls on the connection.
 #[derive(Drop)]
 pub struct Uplink {
-    wire: Arc<Wire>,
+    socket: Arc<UplinkSocket>,
 }
 
-impl Wire {
-    pub fn new(stream: TcpStream) -> Wire {
-        Wire {
+impl UplinkSocket {
+    pub fn new(stream: TcpStream) -> UplinkSocket {
+        UplinkSocket {
             stream,
             steps: AtomicU64::new(0),
             busy: AtomicU64::new(0),
@@ -166,20 +166,20 @@ impl Wire {
 }
 
 impl Uplink {
-    pub fn new(wire: &Arc<Wire>) -> Result<Uplink, AllocError> {
+    pub fn new(socket: &Arc<UplinkSocket>) -> Result<Uplink, AllocError> {
         Ok(Uplink {
-            wire: Arc::try_clone(wire)?,
+            socket: Arc::try_clone(socket)?,
         })
     }
 }
 
 impl Write for Uplink {
     fn write(&mut self, buf: &[u8]) -> io::Result<usize> {
-        self.wire.begin_write();
-        let mut stream = &self.wire.stream;
+        self.socket.begin_write();
+        let mut stream = &self.socket.stream;
         let written = stream.write(buf);
-        self.wire.end_write();
-        self.wire.note(&written, buf.len());
+        self.socket.end_write();
+        self.socket.note(&written, buf.len());
         written
     }
 

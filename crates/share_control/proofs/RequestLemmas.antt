@@ -14,25 +14,25 @@ use Rattle.share_model.specs.declared.line.Line.TheVariants.{Change, Send, Turn,
 use Rattle.share_model.specs.text.Lines.{ReadsLine, is_send}
 use Rattle.share_locked.specs.Calls.{CommandMade}
 use Rattle.share_locked.specs.Views.{LockedView, ClerkView, with_room}
-use Rattle.share_control.specs.Requests.{request_by, request_of, request_in, ObeyedInHold}
+use Rattle.share_control.specs.Requests.{request_by, request_of, request_in, ObeyedLocked}
 use Rattle.share_control.specs.declared.requests.Request.{Request}
-use Rattle.share_control.specs.declared.requests.Request.TheVariants.{Change as AsksChange, NoPlace}
+use Rattle.share_control.specs.declared.requests.Request.TheVariants.{Change as AsksChange, NoRequest}
 use Rattle.share_control.specs.declared.requests.Said.{Said}
 
-packet_has_no_place : (l : Line) → is_send l ≡ true → request_by l ≡ NoPlace
-packet_has_no_place (Change c) is = absurd (true≢false (sym is))
-packet_has_no_place (Send flow payload) is = refl
-packet_has_no_place (Turn most) is = refl
-packet_has_no_place Torn is = refl
-packet_has_no_place Report is = absurd (true≢false (sym is))
-packet_has_no_place (Audit version) is = refl
+packet_is_no_request : (l : Line) → is_send l ≡ true → request_by l ≡ NoRequest
+packet_is_no_request (Change c) is = absurd (true≢false (sym is))
+packet_is_no_request (Send flow payload) is = refl
+packet_is_no_request (Turn most) is = refl
+packet_is_no_request Torn is = refl
+packet_is_no_request Report is = absurd (true≢false (sym is))
+packet_is_no_request (Audit version) is = refl
 
--- a packet has no place, so a lack of memory for its payload makes no difference
+-- a packet is no request, so a lack of memory for its payload makes no difference
 pub request_read : (bytes : List ℕ) (read : Result Line Refusal) → ReadsLine Two bytes read → request_of read
     ≡ request_in bytes
 request_read bytes read (inl same) = ap request_of same
 request_read bytes read (inr none) =
-    ap request_of none.0 ∙ sym (ap request_of none.1.1 ∙ packet_has_no_place none.1.0 none.1.2)
+    ap request_of none.0 ∙ sym (ap request_of none.1.1 ∙ packet_is_no_request none.1.0 none.1.2)
 
 -- the facts of an answer that is no error, and of one that is
 pub at_ok : {A E X : Type 0} {P : A → Type 0} (Q : E → Type 0) (r : Result A E) → MatchResult r P Q → is_err r ≡ false
@@ -46,10 +46,10 @@ at_err P (Ok x) known is then_ = absurd (true≢false (sym is))
 at_err P (Err e) known is then_ = then_ e known
 
 -- a clerk that has got room for a receipt is the clerk before with that room
-pub ready_in_hold : {W : Type 0} (before between after : ClerkView) (request : Request) (said : Said)
-    → between ≡ with_room before between.room → ObeyedInHold W between request said after
-    → ObeyedInHold W before request said after
-ready_in_hold {W = W} before between after request said same obeyed =
-    let P : ClerkView → Type 0 = λ clerk. ObeyedInHold W clerk request said after in
+pub ready_locked : {W : Type 0} (before between after : ClerkView) (request : Request) (said : Said)
+    → between ≡ with_room before between.room → ObeyedLocked W between request said after
+    → ObeyedLocked W before request said after
+ready_locked {W = W} before between after request said same obeyed =
+    let P : ClerkView → Type 0 = λ clerk. ObeyedLocked W clerk request said after in
     let did = subst P same obeyed in
-    record { room = did.room; held = did.held; left = did.left; obeyed = did.obeyed }
+    record { room = did.room; locked = did.locked; left = did.left; obeyed = did.obeyed }

@@ -15,12 +15,12 @@ use Rattle.share_control.specs.Requests.{request_in, AnswersRequest}
 use Rattle.share_control.specs.declared.attending.How.{How}
 use Rattle.share_control.specs.declared.attending.How.TheVariants.{End, ReadFault, WriteFault, NoMemory}
 use Rattle.share_control.specs.declared.requests.Request.{Request}
-use Rattle.share_control.specs.declared.requests.Request.TheVariants.{NoPlace}
+use Rattle.share_control.specs.declared.requests.Request.TheVariants.{NoRequest}
 
--- the request of a line; one that is too long has no place
+-- the request of a line; one that is too long is no request
 abbrev pub request_at : Option (List ℕ) → Request
 request_at (Some line) = request_in line
-request_at None = NoPlace
+request_at None = NoRequest
 
 -- the next line was taken, too long or not
 pub record TakesLine (ahead : List ℕ) (asked : Option (List ℕ)) (rest : List ℕ) : Type 0 where

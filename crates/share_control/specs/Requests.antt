@@ -16,32 +16,32 @@ use Rattle.share_locked.specs.Calls.{CommandMade}
 use Rattle.share_locked.specs.Views.{LockedView, ClerkView, with_room}
 use Rattle.share_control.specs.declared.requests.Request.{Request}
 use Rattle.share_control.specs.declared.requests.Request.TheVariants.{Change as AsksChange, Report as AsksReport}
-use Rattle.share_control.specs.declared.requests.Request.TheVariants.{NoPlace}
+use Rattle.share_control.specs.declared.requests.Request.TheVariants.{NoRequest}
 use Rattle.share_control.specs.declared.requests.Said.{Said}
 use Rattle.share_control.specs.declared.requests.Said.TheVariants.{Reply as SaysReply, Report as SaysReport}
 
--- the lines that have a place on a control connection: the changes and the report
+-- the lines that are requests on a control connection: the changes and the report
 abbrev pub request_by : Line → Request
 request_by (Change c) = AsksChange c
-request_by (Send flow payload) = NoPlace
-request_by (Turn most) = NoPlace
-request_by Torn = NoPlace
+request_by (Send flow payload) = NoRequest
+request_by (Turn most) = NoRequest
+request_by Torn = NoRequest
 request_by Report = AsksReport
-request_by (Audit version) = NoPlace
+request_by (Audit version) = NoRequest
 
 abbrev pub request_of : Result Line Refusal → Request
 request_of (Ok l) = request_by l
-request_of (Err refusal) = NoPlace
+request_of (Err refusal) = NoRequest
 
--- the request in the bytes of a line; bytes that spell no line, or one out of range, have no place either
+-- the request in the bytes of a line; bytes that spell no line, or one out of range, are no request either
 abbrev pub request_in : List ℕ → Request
 request_in bytes = request_of (reading Two bytes)
 
--- a request that has a place, and of a change the clerk has room for its receipt
+-- a request that is obeyed, and of a change the clerk has room for its receipt
 abbrev pub IsReady : ClerkView → Request → Type 0
 IsReady clerk (AsksChange c) = length clerk.receipts < clerk.room
 IsReady clerk AsksReport = Unit {0}
-IsReady clerk NoPlace = ⊥
+IsReady clerk NoRequest = ⊥
 
 abbrev pub control_reply_text : Reply → List ℕ
 control_reply_text reply = line_text (Replied reply)
@@ -61,23 +61,23 @@ Obeys old before (AsksChange c) (SaysReport text) new after = ⊥
 Obeys old before AsksReport (SaysReply reply) new after = (reply ≡ Refused NoMemory) × (new ≡ old) × (after ≡ before)
 Obeys old before AsksReport (SaysReport text) new after =
     (text.items ≡ report old.recorder.link.live) × (new ≡ old) × (after ≡ before)
-Obeys old before NoPlace said new after = ⊥
+Obeys old before NoRequest said new after = ⊥
 
 -- the clerk may have got room for a receipt, and then the request was obeyed with the lock taken once
-pub record ObeyedInHold (W : Type 0) (before : ClerkView) (request : Request) (said : Said) (after : ClerkView) : Type 0
+pub record ObeyedLocked (W : Type 0) (before : ClerkView) (request : Request) (said : Said) (after : ClerkView) : Type 0
   where
     pub room : ℕ
-    pub held : LockedView W
+    pub locked : LockedView W
     pub left : LockedView W
-    pub obeyed : Obeys held (with_room before room) request said left after
+    pub obeyed : Obeys locked (with_room before room) request said left after
 
 -- The answer to a request. To a change: the reply to its command, or that there was no memory for a receipt, and no
 -- command was made. To a report: the report. To all others: Syntax, without the lock.
 abbrev pub IsSaidTo : (W : Type 0) → ClerkView → Request → Said → ClerkView → Type 0
 IsSaidTo W before (AsksChange c) said after =
-    ObeyedInHold W before (AsksChange c) said after ⊎ ((said ≡ SaysReply (Refused NoMemory)) × (after ≡ before))
-IsSaidTo W before AsksReport said after = ObeyedInHold W before AsksReport said after
-IsSaidTo W before NoPlace said after = (said ≡ SaysReply (Refused Syntax)) × (after ≡ before)
+    ObeyedLocked W before (AsksChange c) said after ⊎ ((said ≡ SaysReply (Refused NoMemory)) × (after ≡ before))
+IsSaidTo W before AsksReport said after = ObeyedLocked W before AsksReport said after
+IsSaidTo W before NoRequest said after = (said ≡ SaysReply (Refused Syntax)) × (after ≡ before)
 
 -- the text that answers a request, and the clerk after it
 abbrev pub AnswersRequest : (W : Type 0) → ClerkView → Request → List ℕ → ClerkView → Type 0

@@ -47,7 +47,7 @@ fn next_request<I: TellingReader + Drop>(
 {
     match input.next() {
         Incoming::Line => Some(request_in(alloc, input.line())),
-        Incoming::OverLong => Some(Request::NoPlace),
+        Incoming::OverLong => Some(Request::NoRequest),
         Incoming::Unfinished => None,
     }
 }

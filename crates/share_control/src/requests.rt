@@ -1,7 +1,7 @@
 //! Requests in the lines of a control connection, and their answers.
 ghost use Rattle.std.specs.Prelude.{◌≡◌, ℕ, List};
 ghost use Rattle.share_model.specs.io.Printing.{WritesText};
-ghost use Rattle.share_control.specs.Requests.{request_of, request_in, said_text, IsReady, Obeys, ObeyedInHold};
+ghost use Rattle.share_control.specs.Requests.{request_of, request_in, said_text, IsReady, Obeys, ObeyedLocked};
 ghost use Rattle.share_control.specs.Requests.{IsSaidTo, AnswersRequest};
 
 use share_base::{Command, Refusal, Reply, Version};
@@ -19,7 +19,7 @@ pub enum Request {
     /// The report of the link.
     Report,
     /// No line that may come on a control connection.
-    NoPlace,
+    NoRequest,
 }
 
 /// The answer of a link to a request.
@@ -38,7 +38,7 @@ fn request_of(line: &Result<Line, Refusal>) -> Request
     match line {
         Ok(Line::Change(command)) => Request::Change(*command),
         Ok(Line::Report) => Request::Report,
-        _ => Request::NoPlace,
+        _ => Request::NoRequest,
     }
 }
 
@@ -69,12 +69,12 @@ fn obey<W: TellingWriter, S: Rates, L: LinkBrand>(
             Ok(text) => Said::Report(text),
             Err(refusal) => Said::Reply(Reply::Refused(refusal)),
         },
-        Request::NoPlace => unreachable!(),
+        Request::NoRequest => unreachable!(),
     }
 }
 
 // Obeys a request with the lock taken once.
-fn obey_in_hold<W: TellingWriter, S: Rates, L: LinkBrand, R: Wait>(
+fn obey_locked<W: TellingWriter, S: Rates, L: LinkBrand, R: Wait>(
     rt: &R,
     alloc: Global,
     port: &Port<W, S, L>,
@@ -82,7 +82,7 @@ fn obey_in_hold<W: TellingWriter, S: Rates, L: LinkBrand, R: Wait>(
     request: Request,
 ) -> Said
     requires { IsReady clerk.old request }
-    ensures { ObeyedInHold W clerk.old request result clerk.new }
+    ensures { ObeyedLocked W clerk.old request result clerk.new }
 {
     obey(alloc, &mut port.lock(rt), clerk, request)
 }
@@ -101,7 +101,7 @@ fn change<W: TellingWriter, S: Rates, L: LinkBrand, R: Wait>(
     if clerk.ready().is_err() {
         return Said::Reply(Reply::Refused(Refusal::NoMemory));
     }
-    let said = obey_in_hold(rt, alloc, port, clerk, Request::Change(command));
+    let said = obey_locked(rt, alloc, port, clerk, Request::Change(command));
     pace.ring();
     said
 }
@@ -119,8 +119,8 @@ fn say<W: TellingWriter, S: Rates, L: LinkBrand, R: Wait>(
 {
     match request {
         Request::Change(command) => change(rt, alloc, port, pace, clerk, command),
-        Request::Report => obey_in_hold(rt, alloc, port, clerk, Request::Report),
-        Request::NoPlace => Said::Reply(Reply::Refused(Refusal::Syntax)),
+        Request::Report => obey_locked(rt, alloc, port, clerk, Request::Report),
+        Request::NoRequest => Said::Reply(Reply::Refused(Refusal::Syntax)),
     }
 }
 

@@ -8,7 +8,7 @@ use Rattle.share_model.specs.funding.Graph.{tickets, is_active_flow}
 use Rattle.share_model.proofs.lemmas.funding.HolderLemmas.{idle-none}
 use Rattle.share_model.specs.link.Buffers.{Buffer, head_in, head_of_buffer, head_of, buffer_of, is_some_packet}
 use Rattle.share_model.specs.link.Books.{is_held}
-use Rattle.share_model.specs.link.Buffers.{holds_packet}
+use Rattle.share_model.specs.link.Buffers.{has_packet}
 use Rattle.share_model.specs.link.Frame.{Packet}
 use Rattle.share_model.specs.link.Live.{Live}
 use Rattle.share_model.specs.link.Turns.{sending_at, sending}
@@ -25,7 +25,7 @@ has_head : (b : Buffer) (ps : List (List ℕ)) → is_some_packet ps ≡ true �
 has_head b [] some none = cc
 has_head b (p ∷ ps) some none = cc
 
-headed : (o : Option Buffer) → holds_packet o ≡ true → option_and_then head_of_buffer o ≡ None → ⊥
+headed : (o : Option Buffer) → has_packet o ≡ true → option_and_then head_of_buffer o ≡ None → ⊥
 headed None busy none = cc
 headed (Some b) busy none = has_head b b.packets busy none
 
@@ -51,7 +51,7 @@ next_headed {l = l} sound f first none =
     let active : is_active_flow l.graph f ≡ true =
     busy_or_none (is_active_flow l.graph f) (tickets l.graph f) (idle-none l.graph f) (has.competes.0 competes) in
     headed (buffer_of l.buffers f)
-    (busy_of (holds_packet (buffer_of l.buffers f)) (not (is_held l.books f)) (sym (flow-active sound f) ∙ active)) none
+    (busy_of (has_packet (buffer_of l.buffers f)) (not (is_held l.books f)) (sym (flow-active sound f) ∙ active)) none
 
 no_part : {life : ℕ} {rates : List Rate} {l : Live} → Sound life rates l → (o : Option Part) → l.part ≡ o
     → sending l ≡ None → o ≡ None

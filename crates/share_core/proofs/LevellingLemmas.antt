@@ -10,7 +10,7 @@ use Rattle.share_model.specs.lists.Each.{Each}
 use Rattle.share_model.specs.lists.Rises.{Rises}
 use Rattle.share_model.specs.funding.Graph.{NameBytes, Graph, flow_numbers, tickets}
 use Rattle.share_model.specs.funding.Changes.{set_active}
-use Rattle.share_model.specs.funding.Kept.{IsKept}
+use Rattle.share_model.specs.funding.WellFormed.{IsWellFormed}
 use Rattle.share_model.proofs.lemmas.link.BufferLemmas.{numbers-with_activity}
 use Rattle.share_model.specs.link.Live.{tickets_of_all}
 use Rattle.share_model.proofs.lemmas.run.QueueLemmas.{tickets_of_all-distinct}
@@ -265,9 +265,9 @@ pub level-settled : (q : Stride) (g now : Graph) (f : ℕ) (t : Bool) (levelled_
 level-settled q g now f t levelled_with is =
     level-by q g now levelled_with (ap (λ (g : Graph). flow_numbers g.flows) is ∙ numbers-with_activity f t g.flows)
 
-pub kept-distinct : (g : Graph) → IsKept g → AreDistinctFlows (tickets_of_all g)
+pub well_formed-distinct : (g : Graph) → IsWellFormed g → AreDistinctFlows (tickets_of_all g)
 unfolding Rises
-kept-distinct g kept = tickets_of_all-distinct g g.next_flow kept.numbered.flows.2
+well_formed-distinct g kept = tickets_of_all-distinct g g.next_flow kept.numbered.flows.2
 
 -- all were levelled at the end
 pub kept-all : (start now : Stride) (g : Graph) (levelled_with : List ℕ) (place : ℕ) → place ≡ length g.flows
@@ -282,7 +282,7 @@ pub tickets-count : (g : Graph) (ts : List ℕ) → ts ≡ map (λ (e : NameByte
 tickets-count g ts is = ap length is ∙ length-map g.flows (λ (e : NameBytes × OpenFlow). tickets g e.1.number)
 
 -- the flows up to a place whose tickets are as they were need no look
-pub changed-to : (start now : Stride) (g : Graph) (levelled_with ts : List ℕ) (place to : ℕ) → IsKept g
+pub changed-to : (start now : Stride) (g : Graph) (levelled_with ts : List ℕ) (place to : ℕ) → IsWellFormed g
     → ts ≡ map (λ (e : NameBytes × OpenFlow). tickets g e.1.number) g.flows → place ≤ to → to ≤ length ts
     → AreSameFrom levelled_with ts place to → AreDoneChanged start now (tickets_of_all g) levelled_with place
     → AreDoneChanged start now (tickets_of_all g) levelled_with to
@@ -295,4 +295,5 @@ changed-to start now g levelled_with ts place to kept is before inside same done
     let same_there : AreSameFrom levelled_with (map (λ (want : ℕ × ℕ). want.1) (tickets_of_all g)) place (place + n) =
     λ k after before. same k after (omega (arith, before, there)) ∙ ap (λ ns. get_or ns k 0) wanted in
     subst (AreDoneChanged start now (tickets_of_all g) levelled_with) there
-    (changed_same start now (tickets_of_all g) levelled_with place n (kept-distinct g kept) within same_there done)
+    (changed_same start now (tickets_of_all g) levelled_with place n (well_formed-distinct g kept) within
+    same_there done)

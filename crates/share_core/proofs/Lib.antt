@@ -1,6 +1,6 @@
 pub mod ActivityLemmas
 pub mod ArrivalLemmas
-pub mod BufferPlaceLemmas
+pub mod BufferHandleLemmas
 pub mod ClosingLemmas
 pub mod FundingLemmas
 pub mod HoldLemmas

@@ -1,4 +1,4 @@
--- The place at which a write goes on.
+-- The write that is due.
 use Rattle.std.proofs.Common.{◌≡◌, ℕ, ◌+◌, List, length, Option, None, Some, option_map, MatchOption, refl, sym, ◌∙◌}
 use Rattle.std.proofs.Common.{ap, subst}
 use Rattle.share_model.specs.declared.link.Part.{Part}
@@ -10,7 +10,7 @@ use Rattle.share_model.specs.link.Buffers.{head_of}
 use Rattle.share_model.specs.link.Live.{Live}
 use Rattle.share_model.specs.link.Turns.{Sending, sending_at, sending}
 use Rattle.share_model.specs.stride.Moves.{next}
-use Rattle.share_flows.specs.Places.{Stands}
+use Rattle.share_flows.specs.BufferHandles.{Stands}
 use Rattle.share_core.specs.declared.next_write.NextWrite.{NextWrite}
 use Rattle.share_core.specs.NextWrite.{IsNextWriteOf}
 
@@ -28,7 +28,7 @@ pub sending-none : (l : Live) → l.part ≡ None → next l.queue.clients ≡ N
 unfolding sending
 sending-none l none is = rw (none, is) refl
 
--- the place at the head packet of a flow is that of the frame that is sent, or there is neither
+-- the write that goes on with the head packet of a flow is that of the frame that is sent, or there is neither
 pub sending_placed : (l : Live) (out : ℕ) (o : Option Packet) (r : Option NextWrite)
     → sending l ≡ option_map (sending_at l out) o
     → MatchOption r (o ≡ None) (λ p. IsNextWriteOf (option_map (sending_at l out) o) p × Stands l.buffers p.buffer)
@@ -37,17 +37,17 @@ sending_placed l out o None is none = is ∙ ap (option_map (sending_at l out)) 
 sending_placed l out o (Some p) is placed =
     (subst (λ (s : Option Sending). IsNextWriteOf s p) (sym is) placed.0, placed.1)
 
-same_place : (place : NextWrite) (tariff len : ℕ) → place.tariff ≡ tariff → place.length ≡ len
-    → place ≡ record place { tariff = tariff; length = len }
-same_place place tariff len is long = rw (sym is, sym long) refl
+same_due : (due : NextWrite) (tariff len : ℕ) → due.tariff ≡ tariff → due.length ≡ len
+    → due ≡ record due { tariff = tariff; length = len }
+same_due due tariff len is long = rw (sym is, sym long) refl
 
--- a head packet, with the tariff of its flow and the length of its frame, is at its place
-pub head_placed : (l : Live) (place : NextWrite) (payload : List ℕ)
-    → head_of l.buffers place.buffer.flow
-    ≡ Some record { flow = place.buffer.flow; seq = place.seq; payload = payload }
-    → place.tariff ≡ tariff_of l.books place.buffer.flow → place.length ≡ header_length l.version + length payload
-    → IsNextWriteOf (option_map (sending_at l place.out) (head_of l.buffers place.buffer.flow)) place
-head_placed l place payload head tariff long =
-    let h : Packet = record { flow = place.buffer.flow; seq = place.seq; payload = payload } in
-    subst (λ (o : Option Packet). IsNextWriteOf (option_map (sending_at l place.out) o) place) (sym head)
-    (same_place place _ _ tariff (long ∙ sym (length-frame l.version (tariff_of l.books place.buffer.flow) h)))
+-- a head packet, with the tariff of its flow and the length of its frame, is what its write goes on with
+pub head_placed : (l : Live) (due : NextWrite) (payload : List ℕ)
+    → head_of l.buffers due.buffer.flow
+    ≡ Some record { flow = due.buffer.flow; seq = due.seq; payload = payload }
+    → due.tariff ≡ tariff_of l.books due.buffer.flow → due.length ≡ header_length l.version + length payload
+    → IsNextWriteOf (option_map (sending_at l due.out) (head_of l.buffers due.buffer.flow)) due
+head_placed l due payload head tariff long =
+    let h : Packet = record { flow = due.buffer.flow; seq = due.seq; payload = payload } in
+    subst (λ (o : Option Packet). IsNextWriteOf (option_map (sending_at l due.out) o) due) (sym head)
+    (same_due due _ _ tariff (long ∙ sym (length-frame l.version (tariff_of l.books due.buffer.flow) h)))

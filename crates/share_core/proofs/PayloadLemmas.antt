@@ -6,7 +6,7 @@ use Rattle.std.proofs.lemmas.Option.{same_Some}
 use Rattle.share_base.specs.Body.{BodyView, framed_bytes}
 use Rattle.share_model.specs.link.Frame.{Packet, PacketOf, map_packet}
 use Rattle.share_model.specs.link.Buffers.{Buffer, is_buffer_of, buffer_of, backlog_of, open_in, close_in, count_in}
-use Rattle.share_model.specs.link.Buffers.{head_in as head_in_buffer, head_of_buffer, holds_packet, is_some_packet}
+use Rattle.share_model.specs.link.Buffers.{head_in as head_in_buffer, head_of_buffer, has_packet, is_some_packet}
 use Rattle.share_model.specs.link.Buffers.{is_full, pop_in, head_of, is_busy, map_buffer, payload_of, payloads_in}
 use Rattle.share_model.specs.link.Buffers.{push_in}
 use Rattle.share_model.proofs.lemmas.lists.FirstItemLemmas.{find-change_first}
@@ -14,8 +14,8 @@ use Rattle.share_model.proofs.lemmas.link.PayloadLemmas.{buffer_of-image, backlo
 use Rattle.share_model.proofs.lemmas.link.PayloadLemmas.{is_full-image, is_busy-image}
 use Rattle.share_model.proofs.lemmas.link.PayloadLemmas.{head_of-image, place-image, open_in-image, close_in-image}
 use Rattle.share_model.proofs.lemmas.link.PayloadLemmas.{push_in-image, pop_in-image}
-use Rattle.share_flows.specs.declared.buffers.Place.{Place}
-use Rattle.share_flows.specs.Places.{Stands}
+use Rattle.share_flows.specs.declared.buffers.BufferHandle.{BufferHandle}
+use Rattle.share_flows.specs.BufferHandles.{Stands}
 use Rattle.share_flows.specs.Stamps.{BufferView, first_stamped, with_stamp, stamp_in}
 
 -- Options whose values are mapped
@@ -65,11 +65,11 @@ module _ (bs : List BufferView) (seen : List Buffer) (is : payloads_in bs ≡ se
   place_as : (f : ℕ) → position (is_buffer_of f) seen ≡ position (is_buffer_of f) bs
   place_as f = ap (position (is_buffer_of f)) (sym is) ∙ place-image payload_of bs f
 
-  pub stands_in : (place : Place) → Stands seen place → Stands bs place
-  stands_in place stands = sym (place_as place.flow) ∙ stands
+  pub stands_in : (handle : BufferHandle) → Stands seen handle → Stands bs handle
+  stands_in handle stands = sym (place_as handle.flow) ∙ stands
 
-  pub stands_out : (place : Place) → Stands bs place → Stands seen place
-  stands_out place stands = place_as place.flow ∙ stands
+  pub stands_out : (handle : BufferHandle) → Stands bs handle → Stands seen handle
+  stands_out handle stands = place_as handle.flow ∙ stands
 
   pub busy_in : (f : ℕ) → is_busy seen f ≡ is_busy bs f
   busy_in f = ap (λ xs. is_busy xs f) (sym is) ∙ is_busy-image payload_of bs f
@@ -80,7 +80,7 @@ module _ (bs : List BufferView) (seen : List Buffer) (is : payloads_in bs ≡ se
   pub count_as : (f : ℕ) → count_in bs f ≡ count_in seen f
   count_as f = sym (count_in-image payload_of bs f) ∙ ap (λ xs. count_in xs f) is
 
-  pub found_out : (f : ℕ) (o : Option Place)
+  pub found_out : (f : ℕ) (o : Option BufferHandle)
       → MatchOption o (buffer_of bs f ≡ None) (λ p. (p.flow ≡ f) × IsSome (buffer_of bs f) × Stands bs p)
       → MatchOption o (buffer_of seen f ≡ None) (λ p. (p.flow ≡ f) × IsSome (buffer_of seen f) × Stands seen p)
   found_out f None none = none_out f none
@@ -223,7 +223,7 @@ none_stamped new seen f is some none =
     no_packet h = cc
 
 -- a flow that has a head packet is busy
-head_busy : (o : Option Buffer) → IsSome (option_and_then head_of_buffer o) → holds_packet o ≡ true
+head_busy : (o : Option Buffer) → IsSome (option_and_then head_of_buffer o) → has_packet o ≡ true
 head_busy None some = absurd (cc)
 head_busy (Some b) some = by_packets b.packets some
   where

@@ -1,10 +1,10 @@
--- Facts about the frame that is sent, by its place.
+-- Facts about the frame that is sent, by the write that is due.
 use Rattle.std.proofs.Common.{◌≡◌, ℕ, ◌+◌, ◌<◌, ◌≤◌, ◌^◌, Bool, true, false, not, ◌&&◌, List, [], ◌∷◌, length, find}
 use Rattle.std.proofs.Common.{Option, None, Some}
 use Rattle.std.proofs.Common.{option_and_then, IsSome, IfSome, IsTrue, is_some, refl, sym, ◌∙◌, ap, subst, arith}
 use Rattle.share_model.specs.declared.rates.Rate.{Rate}
 use Rattle.share_model.specs.link.Buffers.{Buffer, buffer_of, pop_in, head_in, head_of_buffer, head_of}
-use Rattle.share_model.specs.link.Buffers.{is_some_packet, holds_packet, is_busy}
+use Rattle.share_model.specs.link.Buffers.{is_some_packet, has_packet, is_busy}
 use Rattle.share_model.specs.link.Frame.{Packet}
 use Rattle.share_model.specs.funding.Changes.{set_active}
 use Rattle.share_model.specs.link.Live.{Live}
@@ -31,34 +31,34 @@ use Rattle.share_core.specs.Found.{IfFound}
 use Rattle.share_model.specs.link.View.{LinkView}
 use Rattle.share_core.specs.NextWrite.{next_write_of, IsNextWriteOf, IsWithinRest}
 
--- the frame that is sent, of which this is the place
-pub record IsSent (l : Live) (place : NextWrite) : Type 0 where
-  pub s : Sending
-  pub is : sending l ≡ Some s
-  pub place_is : place ≡ next_write_of place.buffer.at s
+-- the frame that is sent, of which this is the write
+pub record IsSent (l : Live) (due : NextWrite) : Type 0 where
+  pub frame : Sending
+  pub is : sending l ≡ Some frame
+  pub due_is : due ≡ next_write_of due.buffer.at frame
 
-sent_by : (l : Live) (place : NextWrite) (o : Option Sending) → sending l ≡ o → IsNextWriteOf o place → IsSent l place
-sent_by l place None is h = absurd h
-sent_by l place (Some s) is h = record { s = s; is = is; place_is = h }
+sent_by : (l : Live) (due : NextWrite) (o : Option Sending) → sending l ≡ o → IsNextWriteOf o due → IsSent l due
+sent_by l due None is h = absurd h
+sent_by l due (Some s) is h = record { frame = s; is = is; due_is = h }
 
-pub sent : (k n : LinkView (Unit {0})) (place : NextWrite) → k ≡ n → IsNextWriteOf (sending n.live) place
-    → IsSent k.live place
-sent k n place same h =
-    sent_by k.live place (sending k.live) refl
-    (subst (λ (k : LinkView (Unit {0})). IsNextWriteOf (sending k.live) place) (sym same) h)
+pub sent : (k n : LinkView (Unit {0})) (due : NextWrite) → k ≡ n → IsNextWriteOf (sending n.live) due
+    → IsSent k.live due
+sent k n due same h =
+    sent_by k.live due (sending k.live) refl
+    (subst (λ (k : LinkView (Unit {0})). IsNextWriteOf (sending k.live) due) (sym same) h)
 
--- a link of which the last k bytes of the frame at a place are out, and one of which it was torn
+-- a link of which the last k bytes of the frame of a write are out, and one of which it was torn
 abbrev pub whole_at : List Rate → Live → NextWrite → ℕ → Live
-whole_at rates l place k =
-    let units = units_due rates l.books place.buffer.flow place.length in
-    let left = pop_in l.buffers place.buffer.flow in
+whole_at rates l due k =
+    let units = units_due rates l.books due.buffer.flow due.length in
+    let left = pop_in l.buffers due.buffer.flow in
     with_level_queue (record l {
       graph =
-          set_active l.graph place.buffer.flow
-          (is_busy left place.buffer.flow && not (is_held l.books place.buffer.flow));
-      queue = charge l.queue place.buffer.flow units;
+          set_active l.graph due.buffer.flow
+          (is_busy left due.buffer.flow && not (is_held l.books due.buffer.flow));
+      queue = charge l.queue due.buffer.flow units;
       buffers = left;
-      books = books_with_units rates l.books place.buffer.flow units;
+      books = books_with_units rates l.books due.buffer.flow units;
       part = None;
       counts = record l.counts {
         events = l.counts.events + 1;
@@ -68,21 +68,21 @@ whole_at rates l place k =
     })
 
 abbrev pub torn_at : List Rate → Live → NextWrite → Live
-torn_at rates l place =
-    let units = units_due rates l.books place.buffer.flow place.out in
+torn_at rates l due =
+    let units = units_due rates l.books due.buffer.flow due.out in
     record l {
-      queue = charge l.queue place.buffer.flow units;
-      books = books_with_units rates l.books place.buffer.flow units;
+      queue = charge l.queue due.buffer.flow units;
+      books = books_with_units rates l.books due.buffer.flow units;
       part = None;
-      torn = Some place.buffer.flow;
+      torn = Some due.buffer.flow;
       broken = true;
       counts = record l.counts { events = l.counts.events + 1 };
     }
 
 -- n bytes, at least 1, are no more than what is left
-pub within : (k m : LinkView (Unit {0})) (place : NextWrite) (n : ℕ) → k ≡ m → (t : IsSent k.live place)
-    → IsWithinRest (sending m.live) n → (0 < n) × (n ≤ length (rest_of t.s))
-within k m place n same t h =
+pub within : (k m : LinkView (Unit {0})) (due : NextWrite) (n : ℕ) → k ≡ m → (t : IsSent k.live due)
+    → IsWithinRest (sending m.live) n → (0 < n) × (n ≤ length (rest_of t.frame))
+within k m due n same t h =
     subst (λ (o : Option Sending). IsWithinRest o n)
     (ap (λ (k : LinkView (Unit {0})). sending k.live) (sym same) ∙ t.is) h
 
@@ -97,111 +97,111 @@ head_busy bs f h is = by_buffer (buffer_of bs f) is
     by_packets b [] is = cc
     by_packets b (p ∷ ps) is = refl
 
-    by_buffer : (o : Option Buffer) → option_and_then head_of_buffer o ≡ Some h → holds_packet o ≡ true
+    by_buffer : (o : Option Buffer) → option_and_then head_of_buffer o ≡ Some h → has_packet o ≡ true
     by_buffer None is = cc
     by_buffer (Some b) is = by_packets b b.packets is
 
-module _ (life : ℕ) (rates : List Rate) (l : Live) (place : NextWrite) (sound : Sound life rates l)
-    (t : IsSent l place) where
+module _ (life : ℕ) (rates : List Rate) (l : Live) (due : NextWrite) (sound : Sound life rates l)
+    (t : IsSent l due) where
   -- the book of its flow has a tariff of the shelf, and room for one more event
-  pub known : IfFound (find (is_book_of place.buffer.flow) l.books) (λ b. IsTrue (is_some (rate_at rates b.tariff)))
+  pub known : IfFound (find (is_book_of due.buffer.flow) l.books) (λ b. IsTrue (is_some (rate_at rates b.tariff)))
   known =
-      if_found (find (is_book_of place.buffer.flow) l.books) (λ b. IsTrue (is_some (rate_at rates b.tariff)))
-      (λ b found. book-known sound place.buffer.flow found)
+      if_found (find (is_book_of due.buffer.flow) l.books) (λ b. IsTrue (is_some (rate_at rates b.tariff)))
+      (λ b found. book-known sound due.buffer.flow found)
 
   pub posts :
-      life ≤ 2 ^ 24 → IfFound (find (is_book_of place.buffer.flow) l.books) (λ b. b.account ≤ 4611686018427387904)
+      life ≤ 2 ^ 24 → IfFound (find (is_book_of due.buffer.flow) l.books) (λ b. b.account ≤ 4611686018427387904)
   posts few =
-      if_found (find (is_book_of place.buffer.flow) l.books) (λ b. b.account ≤ 4611686018427387904)
-      (λ b found. omega (arith, book-account sound place.buffer.flow found, sound.counts.events, few))
+      if_found (find (is_book_of due.buffer.flow) l.books) (λ b. b.account ≤ 4611686018427387904)
+      (λ b found. omega (arith, book-account sound due.buffer.flow found, sound.counts.events, few))
 
   -- its frame is short, and not all of it is out
-  pub short : place.length ≤ 9017
-  short = subst (λ (p : NextWrite). p.length ≤ 9017) (sym t.place_is) (sending-short sound t.is)
+  pub short : due.length ≤ 9017
+  short = subst (λ (p : NextWrite). p.length ≤ 9017) (sym t.due_is) (sending-short sound t.is)
 
-  pub out_few : place.out ≤ 9017
+  pub out_few : due.out ≤ 9017
   out_few =
       let few = sending-few sound t.is in let most = sending-short sound t.is in
-      subst (λ (p : NextWrite). p.out ≤ 9017) (sym t.place_is) (omega (arith, few, most))
+      subst (λ (p : NextWrite). p.out ≤ 9017) (sym t.due_is) (omega (arith, few, most))
 
   -- its flow is a client of the queue
-  pub joined : IsSome (get l.queue.clients place.buffer.flow)
+  pub joined : IsSome (get l.queue.clients due.buffer.flow)
   joined =
-      subst (λ (p : NextWrite). IsSome (get l.queue.clients p.buffer.flow)) (sym t.place_is)
-      (sound.queue.clients t.s.head.flow ∙ head-stands sound t.s.head.flow (sending-head sound t.is))
+      subst (λ (p : NextWrite). IsSome (get l.queue.clients p.buffer.flow)) (sym t.due_is)
+      (sound.queue.clients t.frame.head.flow ∙ head-stands sound t.frame.head.flow (sending-head sound t.is))
 
   -- the clock has room for its units
   pub clock : AreInRange rates → life ≤ 2 ^ 24 → l.counts.events < life → (n : ℕ) → n ≤ 9017
-      → l.queue.clock + units_due rates l.books place.buffer.flow n ≤ 2 ^ 40
+      → l.queue.clock + units_due rates l.books due.buffer.flow n ≤ 2 ^ 40
   clock range short_life living n few =
-      omega (arith, sound.queue.clock, units_due-few rates l.books place.buffer.flow n range few)
+      omega (arith, sound.queue.clock, units_due-few rates l.books due.buffer.flow n range few)
 
   -- a link stays sound if the frame is whole, is in part, or was torn
   pub sound-finish : AreInRange rates → l.counts.events < life → l.broken ≡ false → (k : ℕ)
-      → k ≤ length (rest_of t.s) → Sound life rates (whole_at rates l place k)
+      → k ≤ length (rest_of t.frame) → Sound life rates (whole_at rates l due k)
   sound-finish range living unbroken k fits =
-      subst (λ (p : NextWrite). Sound life rates (whole_at rates l p k)) (sym t.place_is)
+      subst (λ (p : NextWrite). Sound life rates (whole_at rates l p k)) (sym t.due_is)
       (let rest = rest-short sound t.is in
       sound-whole range sound living unbroken t.is k (omega (arith, rest, fits)))
 
-  pub sound-advance : l.counts.events < life → l.broken ≡ false → (k : ℕ) → 0 < k → place.out + k < place.length
+  pub sound-advance : l.counts.events < life → l.broken ≡ false → (k : ℕ) → 0 < k → due.out + k < due.length
       → Sound life rates (record l {
-        part = Some record { flow = place.buffer.flow; out = place.out + k };
+        part = Some record { flow = due.buffer.flow; out = due.out + k };
         counts = record l.counts { events = l.counts.events + 1; sent = l.counts.sent + k };
       })
   sound-advance living unbroken k some few = subst (λ (p : NextWrite). Sound life rates (record l {
     part = Some record { flow = p.buffer.flow; out = p.out + k };
     counts = record l.counts { events = l.counts.events + 1; sent = l.counts.sent + k };
-  })) (sym t.place_is)
-      (sound-in_part sound living unbroken t.is k some (subst (λ (p : NextWrite). p.out + k < p.length) t.place_is few))
+  })) (sym t.due_is)
+      (sound-in_part sound living unbroken t.is k some (subst (λ (p : NextWrite). p.out + k < p.length) t.due_is few))
 
   pub sound-fail : AreInRange rates → l.counts.events < life → l.broken ≡ false
-      → Sound life rates (torn_at rates l place)
+      → Sound life rates (torn_at rates l due)
   sound-fail range living unbroken =
-      subst (λ (p : NextWrite). Sound life rates (torn_at rates l p)) (sym t.place_is)
+      subst (λ (p : NextWrite). Sound life rates (torn_at rates l p)) (sym t.due_is)
       (sound-failed range sound living unbroken t.is)
 
   -- its flow is open, and holds a packet
-  pub stands : has_number place.buffer.flow (flow_numbers l.graph.flows) ≡ true
+  pub stands : has_number due.buffer.flow (flow_numbers l.graph.flows) ≡ true
   stands =
-      subst (λ (p : NextWrite). has_number p.buffer.flow (flow_numbers l.graph.flows) ≡ true) (sym t.place_is)
-      (head-stands sound t.s.head.flow (sending-head sound t.is))
+      subst (λ (p : NextWrite). has_number p.buffer.flow (flow_numbers l.graph.flows) ≡ true) (sym t.due_is)
+      (head-stands sound t.frame.head.flow (sending-head sound t.is))
 
-  pub busy : is_busy l.buffers place.buffer.flow ≡ true
+  pub busy : is_busy l.buffers due.buffer.flow ≡ true
   busy =
-      subst (λ (p : NextWrite). is_busy l.buffers p.buffer.flow ≡ true) (sym t.place_is)
-      (head_busy l.buffers t.s.head.flow t.s.head (sending-head sound t.is))
+      subst (λ (p : NextWrite). is_busy l.buffers p.buffer.flow ≡ true) (sym t.due_is)
+      (head_busy l.buffers t.frame.head.flow t.frame.head (sending-head sound t.is))
 
   -- after its flow was charged the queue is level still, and can be levelled whether the flow is active or not
   module _ (units : ℕ) where
-    pub charged-level : IsLevel (charge l.queue place.buffer.flow units) (tickets_of_all l.graph)
-    charged-level = level-after_charge l.queue place.buffer.flow units (tickets_of_all l.graph) sound.level
+    pub charged-level : IsLevel (charge l.queue due.buffer.flow units) (tickets_of_all l.graph)
+    charged-level = level-after_charge l.queue due.buffer.flow units (tickets_of_all l.graph) sound.level
 
     pub charged-can : l.counts.events < life → units ≤ 11842 → (active : Bool)
-        → CanLevel (charge l.queue place.buffer.flow units)
-        (tickets_of_all (set_active l.graph place.buffer.flow active))
+        → CanLevel (charge l.queue due.buffer.flow units)
+        (tickets_of_all (set_active l.graph due.buffer.flow active))
     charged-can living few active =
-        can-set_active sound (charge l.queue place.buffer.flow units)
-        (queue-after_charge place.buffer.flow units stands living few sound.queue) place.buffer.flow active
+        can-set_active sound (charge l.queue due.buffer.flow units)
+        (queue-after_charge due.buffer.flow units stands living few sound.queue) due.buffer.flow active
 
   awake :
-      (is_busy l.buffers place.buffer.flow && not (is_held l.books place.buffer.flow))
-      ≡ not (is_held l.books place.buffer.flow)
-  awake = ap (λ busy. busy && not (is_held l.books place.buffer.flow)) busy
+      (is_busy l.buffers due.buffer.flow && not (is_held l.books due.buffer.flow))
+      ≡ not (is_held l.books due.buffer.flow)
+  awake = ap (λ busy. busy && not (is_held l.books due.buffer.flow)) busy
 
   -- if the flow holds a packet still, the levelling after the whole frame was charged changes nothing
-  pub due-stays : let units = units_due rates l.books place.buffer.flow place.length in
-      level_all (charge l.queue place.buffer.flow units)
-      (tickets_of_all (set_active l.graph place.buffer.flow (not (is_held l.books place.buffer.flow))))
-      ≡ charge l.queue place.buffer.flow units
+  pub due-stays : let units = units_due rates l.books due.buffer.flow due.length in
+      level_all (charge l.queue due.buffer.flow units)
+      (tickets_of_all (set_active l.graph due.buffer.flow (not (is_held l.books due.buffer.flow))))
+      ≡ charge l.queue due.buffer.flow units
   due-stays =
-      let units = units_due rates l.books place.buffer.flow place.length in
-      stays-level sound place.buffer.flow (not (is_held l.books place.buffer.flow)) awake
-      (charge l.queue place.buffer.flow units) (charged-level units)
+      let units = units_due rates l.books due.buffer.flow due.length in
+      stays-level sound due.buffer.flow (not (is_held l.books due.buffer.flow)) awake
+      (charge l.queue due.buffer.flow units) (charged-level units)
 
   pub activity-stays :
-      set_active l.graph place.buffer.flow (not (is_held l.books place.buffer.flow)) ≡ l.graph
-  activity-stays = stays-active sound place.buffer.flow (not (is_held l.books place.buffer.flow)) awake
+      set_active l.graph due.buffer.flow (not (is_held l.books due.buffer.flow)) ≡ l.graph
+  activity-stays = stays-active sound due.buffer.flow (not (is_held l.books due.buffer.flow)) awake
 
 -- whether a flow holds a packet after one was taken out
 pub left : (before after : List Buffer) (f : ℕ) (a b : Bool) → after ≡ pop_in before f → a ≡ is_busy after f → a ≡ b
@@ -209,20 +209,20 @@ pub left : (before after : List Buffer) (f : ℕ) (a b : Bool) → after ≡ pop
 left before after f a b popped told is = ap (λ (bs : List Buffer). is_busy bs f) (sym popped) ∙ sym told ∙ is
 
 -- the event of a frame of which the last n bytes are out
-pub finished : (k m new : LinkView (Unit {0})) (place : NextWrite) (n : ℕ) → k ≡ m → IsSent k.live place
-    → new ≡ record k { live = whole_at k.rates k.live place n }
+pub finished : (k m new : LinkView (Unit {0})) (due : NextWrite) (n : ℕ) → k ≡ m → IsSent k.live due
+    → new ≡ record k { live = whole_at k.rates k.live due n }
     → IfSome (sending m.live) (λ s. Stepped (whole m.rates m.live s n, wrote_turn s n true) m
-    (Wrote place.buffer.flow place.seq n true) new)
-finished k m new place n same t is =
+    (Wrote due.buffer.flow due.seq n true) new)
+finished k m new due n same t is =
     subst
     (λ (m : LinkView (Unit {0})). IfSome (sending m.live) (λ s. Stepped
-    (whole m.rates m.live s n, wrote_turn s n true) m (Wrote place.buffer.flow place.seq n true) new))
+    (whole m.rates m.live s n, wrote_turn s n true) m (Wrote due.buffer.flow due.seq n true) new))
     same
     (subst (λ (o : Option Sending). IfSome o (λ s. Stepped
-    (whole k.rates k.live s n, wrote_turn s n true) k (Wrote place.buffer.flow place.seq n true) new)) (sym t.is)
-    (subst (λ (p : NextWrite). Stepped (whole k.rates k.live t.s n, wrote_turn t.s n true) k
-    (Wrote p.buffer.flow p.seq n true) new) (sym t.place_is)
-    (subst (λ (new : LinkView (Unit {0})). Stepped (whole k.rates k.live t.s n, wrote_turn t.s n true) k
-    (wrote_turn t.s n true) new)
-    (sym (is ∙ ap (λ (p : NextWrite). record k { live = whole_at k.rates k.live p n }) t.place_is))
+    (whole k.rates k.live s n, wrote_turn s n true) k (Wrote due.buffer.flow due.seq n true) new)) (sym t.is)
+    (subst (λ (p : NextWrite). Stepped (whole k.rates k.live t.frame n, wrote_turn t.frame n true) k
+    (Wrote p.buffer.flow p.seq n true) new) (sym t.due_is)
+    (subst (λ (new : LinkView (Unit {0})). Stepped (whole k.rates k.live t.frame n, wrote_turn t.frame n true) k
+    (wrote_turn t.frame n true) new)
+    (sym (is ∙ ap (λ (p : NextWrite). record k { live = whole_at k.rates k.live p n }) t.due_is))
     (record { live = refl; answer_is = refl; rest = record { life = refl; rates = refl; writer = refl } }))))

@@ -1,4 +1,4 @@
--- The place at which a write goes on, as the code sees it.
+-- The write that is due, as the code sees it.
 use Rattle.std.specs.Prelude.{◌≡◌, ◌<◌, ◌≤◌, ℕ, List, length, Option, None, Some, MatchBool}
 use Rattle.share_base.specs.declared.command.Turn.{Turn}
 use Rattle.share_base.specs.declared.command.Turn.TheVariants.{Idle, Broken, Spent}
@@ -9,7 +9,7 @@ use Rattle.share_model.specs.link.View.{LinkView}
 use Rattle.share_core.specs.declared.next_write.NextWrite.{NextWrite}
 
 -- the flow and the number of the packet, the number of the flow's tariff, the bytes of the frame that are out, and its
--- length. The buffer of the flow stands at the given place
+-- length. The buffer of the flow stands at the given index
 abbrev pub next_write_of : ℕ → Sending → NextWrite
 next_write_of at s = record {
   buffer = record { flow = s.head.flow; at = at };
@@ -19,10 +19,10 @@ next_write_of at s = record {
   length = length (frame_of s);
 }
 
--- a frame is sent, and the place is its own, wherever the buffer of its flow stands
+-- a frame is sent, and the write is its own, wherever the buffer of its flow stands
 abbrev pub IsNextWriteOf : Option Sending → NextWrite → Type 0
-IsNextWriteOf None place = ⊥
-IsNextWriteOf (Some s) place = place ≡ next_write_of place.buffer.at s
+IsNextWriteOf None due = ⊥
+IsNextWriteOf (Some s) due = due ≡ next_write_of due.buffer.at s
 
 -- a frame is sent, and these are the bytes before its payload
 abbrev pub IsHeaderOf : Option Sending → List ℕ → Type 0

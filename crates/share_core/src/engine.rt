@@ -320,7 +320,7 @@ impl<W, S: Rates> Engine<W, S> {
     {
         match self.link.due() {
             Err(turn) => turn,
-            Ok(place) => self.link.fail(place),
+            Ok(due) => self.link.fail(due),
         }
     }
 }

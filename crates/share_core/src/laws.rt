@@ -1,6 +1,6 @@
 //! Laws of every link. A function here does nothing: its contract is a law, which is proved with it.
 ghost use Rattle.std.specs.Prelude.{◌≡◌, None};
-ghost use Rattle.share_model.specs.link.Places.{SharesAreKept};
+ghost use Rattle.share_model.specs.link.Gains.{GainsAreWithinShares};
 ghost use Rattle.share_model.specs.link.Readings.{TicketsAreWithin, TicketsAreUncapped};
 ghost use Rattle.share_model.specs.link.Turns.{sending};
 ghost use Rattle.share_model.specs.stride.Moves.{next};
@@ -26,7 +26,7 @@ pub fn idle_links_are_done<W, S: Rates>(engine: &Engine<W, S>)
 /// of `one` in the chain is at most the greater of 0 and a sum of three terms. They are the gain of `other`, the
 /// distance that `other` was ahead at the start, and the largest gain of `one` in a single call.
 pub fn shares_of_calls<W: TellingWriter, S: Rates>(engine: &Engine<W, S>)
-    ensures { SharesAreKept W.answers engine.now }
+    ensures { GainsAreWithinShares W.answers engine.now }
 {
     // The answer is not used: its contract says that the link is sound.
     let _ = engine.events();

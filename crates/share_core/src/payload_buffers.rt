@@ -8,10 +8,10 @@ ghost use Rattle.share_model.specs.link.Buffers.{buffer_of, open_in, close_in, c
 ghost use Rattle.share_model.specs.link.Buffers.{backlog_of, head_of, is_busy};
 ghost use Rattle.share_model.specs.io.Told.{Fits};
 ghost use Rattle.share_flows.specs.Limit.{limit_refusal};
-ghost use Rattle.share_flows.specs.Places.{Stands};
+ghost use Rattle.share_flows.specs.BufferHandles.{Stands};
 
 use share_base::{Body, FlowNo, Refusal, ZeroFrame};
-use share_flows::{Buffers, Place};
+use share_flows::{BufferHandle, Buffers};
 use share_model::{Answer, Backlog, TellingWriter};
 use std::alloc::Global;
 use std::marker::Model;
@@ -58,50 +58,50 @@ impl PayloadBuffers {
         self.buffers.open(flow, limit)
     }
 
-    /// The place of a flow's buffer. `None` if the flow is not open.
-    pub(crate) fn find(&self, flow: FlowNo) -> Option<Place>
+    /// The handle of a flow's buffer. `None` if the flow is not open.
+    pub(crate) fn find(&self, flow: FlowNo) -> Option<BufferHandle>
         ensures { MatchOption result (buffer_of self.now flow ≡ None)
-            (λ place. (place.flow ≡ flow) × IsSome (buffer_of self.now flow) × Stands self.now place) }
+            (λ handle. (handle.flow ≡ flow) × IsSome (buffer_of self.now flow) × Stands self.now handle) }
     {
         self.buffers.find(flow)
     }
 
-    /// Puts a packet at the back of the buffer at a place, and gives its sequence number. If the buffer is full, it
+    /// Puts a packet at the back of the buffer of a handle, and gives its sequence number. If the buffer is full, it
     /// gives the packet back and changes nothing.
-    pub(crate) fn push_at(&mut self, place: &Place, body: Body) -> Result<u32, Body>
-        requires there { Stands self.old place.now }
-        requires numbers { IfSome (buffer_of self.old place.now.flow)
+    pub(crate) fn push_at(&mut self, handle: &BufferHandle, body: Body) -> Result<u32, Body>
+        requires there { Stands self.old handle.now }
+        requires numbers { IfSome (buffer_of self.old handle.now.flow)
             (λ b. is_full b ≡ false → b.next < 2 ^ 32) }
         ensures ok { IfOk result (λ number.
-            IfSome (buffer_of self.old place.now.flow) (λ b. (number ≡ b.next) × (is_full b ≡ false))
-            × (self.new ≡ push_in self.old place.now.flow body.payload)) }
+            IfSome (buffer_of self.old handle.now.flow) (λ b. (number ≡ b.next) × (is_full b ≡ false))
+            × (self.new ≡ push_in self.old handle.now.flow body.payload)) }
         ensures full { IfErr result (λ back.
             (back ≡ body)
-            × IfSome (buffer_of self.old place.now.flow) (λ b. is_full b ≡ true)
+            × IfSome (buffer_of self.old handle.now.flow) (λ b. is_full b ≡ true)
             × (self.new ≡ self.old)) }
     {
-        self.buffers.push_at(place, body)
+        self.buffers.push_at(handle, body)
     }
 
-    /// The sequence number and the body of the head packet at a place. `None` if the buffer is empty.
-    pub(crate) fn head_at(&self, place: &Place) -> Option<(u32, &Body)>
-        requires { Stands self.now place.now }
-        ensures { MatchOption result (head_of self.now place.now.flow ≡ None) (λ h.
-            head_of self.now place.now.flow
-            ≡ Some (record { flow = place.now.flow; seq = h.0; payload = h.1.now.payload })) }
+    /// The sequence number and the body of the head packet of a handle's buffer. `None` if the buffer is empty.
+    pub(crate) fn head_at(&self, handle: &BufferHandle) -> Option<(u32, &Body)>
+        requires { Stands self.now handle.now }
+        ensures { MatchOption result (head_of self.now handle.now.flow ≡ None) (λ h.
+            head_of self.now handle.now.flow
+            ≡ Some (record { flow = handle.now.flow; seq = h.0; payload = h.1.now.payload })) }
     {
-        self.buffers.head_at(place)
+        self.buffers.head_at(handle)
     }
 
-    /// Takes the head packet out of the buffer at a place, which holds one. The place stays good.
-    pub(crate) fn pop_at(&mut self, place: &Place) -> Body
-        requires there { Stands self.old place.now }
-        requires busy { IsTrue (is_busy self.old place.now.flow) }
-        ensures head { option_map (λ h. h.payload) (head_of self.old place.now.flow) ≡ Some result.payload }
-        ensures after { self.new ≡ pop_in self.old place.now.flow }
-        ensures stands { Stands self.new place.now }
+    /// Takes the head packet out of the buffer of a handle, which has one. The handle stays good.
+    pub(crate) fn pop_at(&mut self, handle: &BufferHandle) -> Body
+        requires there { Stands self.old handle.now }
+        requires busy { IsTrue (is_busy self.old handle.now.flow) }
+        ensures head { option_map (λ h. h.payload) (head_of self.old handle.now.flow) ≡ Some result.payload }
+        ensures after { self.new ≡ pop_in self.old handle.now.flow }
+        ensures stands { Stands self.new handle.now }
     {
-        self.buffers.pop_at(place)
+        self.buffers.pop_at(handle)
     }
 
     /// Takes the head packet out of a flow's buffer, with its payload as it is: nothing is copied. `None` if the flow
@@ -111,9 +111,9 @@ impl PayloadBuffers {
             (option_map (λ h. h.payload) (head_of self.old flow) ≡ Some body.payload)
             × (self.new ≡ pop_in self.old flow)) }
     {
-        let place = self.find(flow)?;
-        if self.is_busy_at(&place) {
-            Some(self.pop_at(&place))
+        let handle = self.find(flow)?;
+        if self.is_busy_at(&handle) {
+            Some(self.pop_at(&handle))
         } else {
             None
         }
@@ -140,12 +140,12 @@ impl PayloadBuffers {
         self.buffers.is_busy(flow)
     }
 
-    /// Whether the buffer at a place holds a packet.
-    pub(crate) fn is_busy_at(&self, place: &Place) -> bool
-        requires { Stands self.now place.now }
-        ensures { result ≡ is_busy self.now place.now.flow }
+    /// Whether the buffer of a handle has a packet.
+    pub(crate) fn is_busy_at(&self, handle: &BufferHandle) -> bool
+        requires { Stands self.now handle.now }
+        ensures { result ≡ is_busy self.now handle.now.flow }
     {
-        self.buffers.is_busy_at(place)
+        self.buffers.is_busy_at(handle)
     }
 
     /// Closes the buffer of a flow, and returns the number of packets that it held.
@@ -157,29 +157,29 @@ impl PayloadBuffers {
         self.buffers.close(flow)
     }
 
-    /// Offers a writer the next bytes of the head packet at a place with this header before it, of which `out` bytes
-    /// are out. It offers at most `most` bytes, in one call. They are one slice of the buffer's own memory, header and
-    /// payload, and nothing is copied but the header. A payload of zeros has no memory there, and is shown in the
-    /// frame.
+    /// Offers a writer the next bytes of the head packet of a handle's buffer with this header before it. The first
+    /// `out` of them are out. It offers at most `most` bytes, in one call. They are one slice of the buffer's own
+    /// memory, header and payload, and nothing is copied but the header. A payload of zeros has no memory there, and is
+    /// shown in the frame.
     pub(crate) fn offer_at<W: TellingWriter>(
         &mut self,
-        place: &Place,
+        handle: &BufferHandle,
         header: &[u8],
         out: u32,
         most: u32,
         writer: &mut W,
     ) -> Answer
-        requires there { Stands self.old place.now }
-        requires head { IsSome (head_of self.old place.now.flow) }
+        requires there { Stands self.old handle.now }
+        requires head { IsSome (head_of self.old handle.now.flow) }
         requires header { IsHeaderLength (length header.now) }
-        requires within { IfSome (head_of self.old place.now.flow) (λ h. out ≤ length (header.now ++ h.payload)) }
-        ensures answered { IfSome (head_of self.old place.now.flow)
+        requires within { IfSome (head_of self.old handle.now.flow) (λ h. out ≤ length (header.now ++ h.payload)) }
+        ensures answered { IfSome (head_of self.old handle.now.flow)
             (λ h. W.answers writer.old (take most (drop out (header.now ++ h.payload))) result writer.new
             × Fits (take most (drop out (header.now ++ h.payload))) result) }
         ensures same { self.new ≡ self.old }
     {
-        self.buffers.stamp_at(place, header);
-        match self.buffers.head_at(place) {
+        self.buffers.stamp_at(handle, header);
+        match self.buffers.head_at(handle) {
             None => unreachable!(),
             Some((_, body)) => offer(writer, body.framed_in(&mut self.frame), out, most),
         }

@@ -1,3 +1,4 @@
 pub mod OpenText
 pub mod Paths
+pub mod Rates
 pub mod Texts

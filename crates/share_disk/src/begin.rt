@@ -27,13 +27,8 @@ impl Folder {
         let text_path = self.path_of(alloc, number, FileKind::Open)?;
         let line = tariffs_line(tariffs);
         write_new(rt, tariffs_path.as_str(), line.as_bytes())?;
-        match self.begin_text(rt, text_path.as_str()) {
-            Ok(file) => Ok(OpenText::over(file, number)),
-            Err(fault) => {
-                let _ = fs::remove_file(rt, tariffs_path.as_str());
-                Err(fault)
-            }
-        }
+        let made = self.begin_text(rt, text_path.as_str());
+        text_over(rt, tariffs_path.as_str(), number, made)
     }
 
     /// Begins a book as `begin` does, and waits for nothing to be durable: `keep_begun` is to be called next. If that
@@ -52,13 +47,8 @@ impl Folder {
         let text_path = self.path_of(alloc, number, FileKind::Open)?;
         let line = tariffs_line(tariffs);
         write_soon(rt, tariffs_path.as_str(), line.as_bytes())?;
-        match make_new(rt, text_path.as_str()) {
-            Ok(file) => Ok(OpenText::over(file, number)),
-            Err(fault) => {
-                let _ = fs::remove_file(rt, tariffs_path.as_str());
-                Err(fault)
-            }
-        }
+        let made = make_new(rt, text_path.as_str());
+        text_over(rt, tariffs_path.as_str(), number, made)
     }
 
     /// Makes the tariffs of a book durable that was begun, and the names of its files.
@@ -83,6 +73,25 @@ impl Folder {
                 let _ = fs::remove_file(rt, path);
                 Err(fault)
             }
+        }
+    }
+}
+
+// The open text of a book over the file that was made for it. If none was, the tariffs of the book are removed.
+fn text_over<R: Files>(
+    rt: &R,
+    tariffs_path: &str,
+    number: u64,
+    made: io::Result<File>,
+) -> io::Result<OpenText>
+    ensures number { IfOk result (λ text. text.number ≡ number) }
+    ensures bytes { IfOk result (λ text. HasText text []) }
+{
+    match made {
+        Ok(file) => Ok(OpenText::over(file, number)),
+        Err(fault) => {
+            let _ = fs::remove_file(rt, tariffs_path);
+            Err(fault)
         }
     }
 }

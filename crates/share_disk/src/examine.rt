@@ -5,14 +5,15 @@ use crate::books_csv::BooksCsv;
 use crate::files::read_if_there;
 use crate::folder::Folder;
 use crate::measure::{digest_of, whole_length};
+use crate::rates::rates_of;
 use crate::time::time_of;
 use crate::totals::book_totals;
 use share_bill::{Bill, Kind, NotBilled, Wrong, run_text};
 use share_catalog::{BookTariff, Closing, FileKind, Row, Tariffs, TextKind, Time, Totals};
-use share_model::{PlainReader, Rate, Rates, Tape};
+use share_model::{PlainReader, Rates, Tape};
 use share_report::report;
 use share_tariff::PlainShelf;
-use std::alloc::{AllocError, Global};
+use std::alloc::Global;
 use std::fs::{File, Files, OpenOptions};
 use std::io;
 use std::io::{ErrorKind, Seek, SeekFrom};
@@ -200,17 +201,4 @@ fn kind_of_run(kind: Kind) -> TextKind {
         Kind::Whole => TextKind::Whole,
         Kind::Lengths => TextKind::Lengths,
     }
-}
-
-// The tariffs of a book as a link knows them.
-fn rates_of(alloc: Global, tariffs: &[BookTariff]) -> Result<Vec<Rate>, AllocError> {
-    let mut rates = Vec::with_capacity(alloc, tariffs.len())?;
-    for tariff in tariffs {
-        rates.push(Rate {
-            cell: tariff.cell,
-            overhead: tariff.overhead,
-            price: tariff.price,
-        })?;
-    }
-    Ok(rates)
 }

@@ -9,7 +9,7 @@ use slab::Slab;
 pub(crate) enum Looked {
     /// The key of one that is over.
     Over(usize),
-    /// None is over, and one may be that has hung up, once what is held of it was taken.
+    /// None is over, and one may be that has hung up, once what is buffered of it was taken.
     Later,
     /// None is over.
     Nothing,

@@ -1,10 +1,10 @@
 //! The doors of tenants: the connections and the packet ports on which each tenant's packets come in, and go out.
 #![tactic(auto)]
 
+mod buffered;
 mod connections;
 mod deliveries;
 mod door;
-mod held;
 mod outgoing;
 mod packet_port;
 mod packet_reader;

@@ -7,7 +7,7 @@ ghost use Rattle.share_doors.specs.Outgoing.{GoesOn, Sends};
 ghost use Rattle.share_doors.specs.Takes.{DropsRecord, Feeds, FindsRecord, GivesOne, GivesPayload, HoldsMore, IsEndOf};
 ghost use Rattle.share_doors.specs.Takes.{PassesRecords};
 
-use crate::held::HeldRecords;
+use crate::buffered::BufferedRecords;
 use crate::outgoing::Outgoing;
 use share_base::{MAX_PAYLOAD, Name};
 use share_book::{Book, Taken};
@@ -72,7 +72,7 @@ pub struct ClosedSender {
 /// A connection of a tenant.
 pub struct Sender {
     stream: Stream,
-    records: HeldRecords,
+    records: BufferedRecords,
     // The token that its events carry, and the port by which it came.
     token: usize,
     port: usize,
@@ -120,7 +120,7 @@ impl Sender {
         token: usize,
         port: usize,
     ) -> io::Result<Sender> {
-        match HeldRecords::new(alloc, tenant) {
+        match BufferedRecords::new(alloc, tenant) {
             Err(_) => Err(Error::from(ErrorKind::OutOfMemory)),
             Ok(records) => Ok(Sender {
                 stream,

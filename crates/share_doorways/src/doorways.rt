@@ -1,6 +1,6 @@
 //! The ports of all tenants, and the connections that came by them.
 
-use crate::ports::{Opening, Port, PortPlace, remove_file};
+use crate::ports::{Opening, Port, PortAddress, remove_file};
 use crate::sources::{Source, Sources};
 use mio::{Interest, Registry, Token};
 use share_base::{FlowNo, Name};
@@ -12,14 +12,11 @@ use share_tariff::PlainShelf;
 use slab::Slab;
 use std::alloc::{AllocError, Global};
 use std::fs::Files;
-use std::io::{Eprint, ErrorKind};
-use std::time::{Clock, Duration, Instant};
+use std::io::Eprint;
+use std::time::{Clock, Instant};
 
 /// The number of connections accepted at a port in a round.
 const ACCEPTS: u32 = 64;
-
-/// The seconds after which a listener is tried again whose connections cannot be accepted.
-const RETRY_SECONDS: u64 = 1;
 
 /// The greatest flow number.
 const FLOWS: usize = 1024;
@@ -31,7 +28,7 @@ pub struct Doorways {
     pub(crate) doors: Slab<Door>,
     // The key of the door of each flow, in order of the flow numbers.
     by_flow: Vec<Option<usize>>,
-    // The time at which listeners are tried again whose connections could not be accepted.
+    // When the first listener is tried again whose connections could not be accepted.
     retry: Option<Instant>,
 }
 
@@ -59,8 +56,8 @@ impl Doorways {
     }
 
     pub(crate) fn set_flow(&mut self, flow: FlowNo, key: Option<usize>) {
-        if let Some(place) = self.by_flow.get_mut(place_of(flow)) {
-            *place = key;
+        if let Some(entry) = self.by_flow.get_mut(place_of(flow)) {
+            *entry = key;
         }
     }
 
@@ -108,7 +105,7 @@ impl Doorways {
     pub fn remove_files<R: Files>(&self, rt: &R) {
         for key in 0..self.ports.capacity() {
             if let Some(port) = self.ports.get(key) {
-                remove_file(rt, &port.place);
+                remove_file(rt, &port.address);
             }
         }
     }
@@ -143,7 +140,7 @@ impl Doorways {
             return;
         };
         match &mut port.opening {
-            Opening::Listener { is_ready, .. } => *is_ready = true,
+            Opening::Listener(listener) => listener.note(),
             Opening::Packets(key) => {
                 if let Some(door) = self.doors.get_mut(port.door) {
                     door.note_port(*key);
@@ -163,7 +160,7 @@ impl Doorways {
         }
     }
 
-    /// The time at which listeners are tried again.
+    /// The time at which a listener is tried again.
     pub fn due(&self) -> Option<Instant> {
         self.retry
     }
@@ -178,26 +175,12 @@ impl Doorways {
         news: &mut News,
         now: Instant,
     ) -> bool {
-        self.retry_listeners(now);
+        self.retry = None;
         let mut is_busy = false;
         for port in 0..self.ports.capacity() {
             is_busy |= self.accept_at(rt, alloc, registry, sources, news, now, port);
         }
         is_busy
-    }
-
-    // Has all listeners tried again, if it is time to.
-    fn retry_listeners(&mut self, now: Instant) {
-        let Some(at) = self.retry else {
-            return;
-        };
-        if !at.saturating_duration_since(now).is_zero() {
-            return;
-        }
-        self.retry = None;
-        for port in 0..self.ports.capacity() {
-            self.note_port(port);
-        }
     }
 
     fn accept_at<R: Clock + Eprint>(
@@ -228,22 +211,14 @@ impl Doorways {
         port: usize,
     ) -> Option<Stream> {
         let found = self.ports.get_mut(port)?;
-        let Opening::Listener { listener, is_ready } = &mut found.opening else {
+        let Opening::Listener(listener) = &mut found.opening else {
             return None;
         };
-        if !*is_ready {
-            return None;
-        }
-        match listener.accept() {
-            Ok(stream) => Some(stream),
-            Err(fault) => {
-                if fault.kind() == ErrorKind::WouldBlock {
-                    *is_ready = false;
-                } else if !is_passing(fault.kind()) {
-                    *is_ready = false;
-                    self.retry = now.checked_add(Duration::from_secs(RETRY_SECONDS));
-                    news.tell_not_accepted(rt, &fault);
-                }
+        listener.tick(now);
+        match listener.accept(rt, news, now) {
+            Some((stream, _)) => Some(stream),
+            None => {
+                self.retry = earlier(self.retry, listener.due());
                 None
             }
         }
@@ -260,10 +235,10 @@ impl Doorways {
         port: usize,
         stream: Stream,
     ) {
-        let Some(place) = self.ports.get(port) else {
+        let Some(opened) = self.ports.get(port) else {
             return;
         };
-        let Some(door) = self.doors.get_mut(place.door) else {
+        let Some(door) = self.doors.get_mut(opened.door) else {
             return;
         };
         if door.len_at(port) >= MAX_SENDERS {
@@ -368,7 +343,7 @@ impl Doorways {
         if let Some(port) = self.ports.get_mut(port) {
             port.opening = Opening::Closed;
             drop(sources.remove(port.token));
-            news.tell_port_closed(rt, door.tenant(), &port.place, &why);
+            news.tell_port_closed(rt, door.tenant(), &port.address, &why);
         }
         true
     }
@@ -392,13 +367,13 @@ impl Doorways {
         true
     }
 
-    /// The key of the port that is at a place.
-    pub fn port_at(&self, place: &PortPlace) -> Option<usize> {
+    /// The key of the port that is at an address.
+    pub fn port_at(&self, address: &PortAddress) -> Option<usize> {
         for key in 0..self.ports.capacity() {
             if self
                 .ports
                 .get(key)
-                .is_some_and(|port| port.place.is_same(place))
+                .is_some_and(|port| port.address.is_same(address))
             {
                 return Some(key);
             }
@@ -412,9 +387,13 @@ fn place_of(flow: FlowNo) -> usize {
     flow.0.saturating_sub(1) as usize
 }
 
-// Whether the next call of a listener may succeed at once: a connection went before it was accepted.
-fn is_passing(kind: ErrorKind) -> bool {
-    kind == ErrorKind::ConnectionAborted || kind == ErrorKind::Interrupted
+// The earlier of two times, if there is one.
+fn earlier(one: Option<Instant>, other: Option<Instant>) -> Option<Instant> {
+    match (one, other) {
+        (Some(first), Some(second)) => Some(first.min(second)),
+        (Some(only), None) | (None, Some(only)) => Some(only),
+        (None, None) => None,
+    }
 }
 
 // Registers a connection and adds it to a door. Returns its key.

@@ -1,7 +1,7 @@
 //! Ports and doors when the file was read anew.
 
 use crate::doorways::Doorways;
-use crate::ports::{Opening, PortPlace, remove_file};
+use crate::ports::{Opening, PortAddress, remove_file};
 use crate::sources::Sources;
 use mio::{Registry, Token};
 use share_base::FlowNo;
@@ -20,12 +20,12 @@ struct Owner {
 }
 
 // The owner of a port in these settings, if it is in them.
-fn owner_of(settings: &Settings, place: &PortPlace) -> Option<Owner> {
+fn owner_of(settings: &Settings, address: &PortAddress) -> Option<Owner> {
     let tenants = settings.plan.tenants();
     for index in 0..tenants.len() {
         let tenant = &tenants[index];
         if let Some(ports) = settings.ports.get(index) {
-            if has_port(ports, place) {
+            if has_port(ports, address) {
                 return Some(owner_by(tenant, ports));
             }
         }
@@ -41,8 +41,8 @@ fn owner_by(tenant: &Tenant, ports: &TenantPorts) -> Owner {
     }
 }
 
-fn has_port(ports: &TenantPorts, place: &PortPlace) -> bool {
-    ports.ports.iter().any(|port| port.is_same(place))
+fn has_port(ports: &TenantPorts, address: &PortAddress) -> bool {
+    ports.ports.iter().any(|port| port.is_same(address))
 }
 
 fn has_flow(tenants: &[Tenant], flow: FlowNo) -> bool {
@@ -65,7 +65,7 @@ impl Doorways {
             let Some(port) = self.ports.get(key) else {
                 continue;
             };
-            match owner_of(settings, &port.place) {
+            match owner_of(settings, &port.address) {
                 None => self.remove_port(rt, registry, sources, key),
                 Some(owner) => self.give_port(rt, alloc, key, owner),
             }
@@ -80,7 +80,7 @@ impl Doorways {
         let Some(port) = self.ports.get(key) else {
             return;
         };
-        if let PortPlace::Unix(path) = &port.place {
+        if let PortAddress::Unix(path) = &port.address {
             let _ = Listener::set_mode(rt, path.as_str(), owner.mode);
         }
         if port.door != door {
@@ -165,7 +165,7 @@ impl Doorways {
             return;
         };
         self.close_port(port.door, key);
-        remove_file(rt, &port.place);
+        remove_file(rt, &port.address);
         drop(sources.remove(port.token));
     }
 }

@@ -2,13 +2,15 @@
 //! anew.
 #![tactic(auto)]
 
+mod acceptor;
 mod doorways;
 mod keeping;
 mod opening;
 mod ports;
 mod sources;
 
+pub use acceptor::Acceptor;
 pub use doorways::Doorways;
 pub use opening::{not_opened, open_doors, open_port, token_of};
-pub use ports::{PortPlace, listen, place_of_control, remove_file};
+pub use ports::{PortAddress, address_of_control, listen, remove_file};
 pub use sources::{Source, Sources};

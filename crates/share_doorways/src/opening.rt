@@ -1,7 +1,8 @@
 //! The opening of the ports of tenants.
 
+use crate::acceptor::Acceptor;
 use crate::doorways::Doorways;
-use crate::ports::{Opened, Opening, Port, PortPlace, open_at};
+use crate::ports::{Opened, Opening, Port, PortAddress, open_at};
 use crate::sources::{Source, Sources};
 use mio::{Registry, Token};
 use share_base::FlowNo;
@@ -21,10 +22,10 @@ pub fn token_of(sources: &mut Sources, source: Source) -> Result<Token, NotRun> 
     }
 }
 
-/// The fault of a place that cannot be opened.
-pub fn not_opened(alloc: Global, place: &PortPlace, fault: Error) -> NotRun {
-    match place.copy(alloc) {
-        Ok(port) => NotRun::Place { port, fault },
+/// The fault of an address that cannot be opened.
+pub fn not_opened(alloc: Global, address: &PortAddress, fault: Error) -> NotRun {
+    match address.copy(alloc) {
+        Ok(port) => NotRun::Port { port, fault },
         Err(_) => NotRun::NoMemory,
     }
 }
@@ -37,19 +38,19 @@ pub fn open_port<R: Files + Net>(
     sources: &mut Sources,
     doorways: &mut Doorways,
     door: usize,
-    place: &PortPlace,
+    address: &PortAddress,
     mode: u32,
 ) -> Result<usize, NotRun> {
     let token = token_of(sources, Source::ControlListener)?;
-    let opened = match open_at(rt, registry, token, place, mode) {
+    let opened = match open_at(rt, registry, token, address, mode) {
         Ok(opened) => opened,
         Err(fault) => {
             drop(sources.remove(token));
-            return Err(not_opened(alloc, place, fault));
+            return Err(not_opened(alloc, address, fault));
         }
     };
-    let place = place.copy(alloc)?;
-    match add_port(alloc, doorways, opened, place, token, door) {
+    let address = address.copy(alloc)?;
+    match add_port(alloc, doorways, opened, address, token, door) {
         Some(port) => {
             sources.set(token, Source::Port(port));
             Ok(port)
@@ -58,28 +59,25 @@ pub fn open_port<R: Files + Net>(
     }
 }
 
-// Adds what was opened at a place. Returns its key.
+// Adds what was opened at an address. Returns its key.
 fn add_port(
     alloc: Global,
     doorways: &mut Doorways,
     opened: Opened,
-    place: PortPlace,
+    address: PortAddress,
     token: Token,
     door: usize,
 ) -> Option<usize> {
     match opened {
         Opened::Listener(listener) => doorways.add_port(Port {
-            place,
-            opening: Opening::Listener {
-                listener,
-                is_ready: true,
-            },
+            address,
+            opening: Opening::Listener(Acceptor::new(listener)),
             token,
             door,
         }),
         Opened::Packets(socket) => {
             let port = doorways.add_port(Port {
-                place,
+                address,
                 opening: Opening::Closed,
                 token,
                 door,
@@ -100,9 +98,9 @@ fn open_ports<R: Files + Net>(
     ports: &TenantPorts,
 ) -> Result<(), NotRun> {
     for index in 0..ports.ports.len() {
-        let place = &ports.ports[index];
+        let address = &ports.ports[index];
         open_port(
-            rt, alloc, registry, sources, doorways, door, place, ports.mode,
+            rt, alloc, registry, sources, doorways, door, address, ports.mode,
         )?;
     }
     Ok(())

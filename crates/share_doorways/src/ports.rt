@@ -1,7 +1,8 @@
 //! Ports: listeners and packet sockets of tenants, and the files of Unix sockets.
 
+use crate::acceptor::Acceptor;
 use mio::{Registry, Token};
-use share_settings::{Listener as ListenerPlace, Port as Setting};
+use share_settings::Listener as ListenerAddress;
 use share_sockets::{Listener, PacketSocket};
 use std::alloc::Global;
 use std::fs::Files;
@@ -9,14 +10,14 @@ use std::io::{Error, ErrorKind};
 use std::net::Net;
 use std::{fs, io};
 
-/// The place of a listener or of a packet port.
-pub type PortPlace = Setting;
+/// The address of a listener or of a packet port.
+pub type PortAddress = share_settings::Port;
 
 /// The socket of a port.
 #[derive(Drop)]
 pub(crate) enum Opening {
-    /// A listener, and whether connections may wait.
-    Listener { listener: Listener, is_ready: bool },
+    /// A listener.
+    Listener(Acceptor),
     /// A packet port, by its key at its door.
     Packets(usize),
     /// Nothing: its descriptor is over.
@@ -26,7 +27,7 @@ pub(crate) enum Opening {
 /// A port: what it has, where it is, and the door that its connections and packets come to.
 #[derive(Drop)]
 pub(crate) struct Port {
-    pub(crate) place: PortPlace,
+    pub(crate) address: PortAddress,
     pub(crate) opening: Opening,
     // The token that its events carry.
     pub(crate) token: Token,
@@ -34,29 +35,29 @@ pub(crate) struct Port {
     pub(crate) door: usize,
 }
 
-/// The socket that was opened at a place.
+/// The socket that was opened at an address.
 #[derive(Drop)]
 pub(crate) enum Opened {
     Listener(Listener),
     Packets(PacketSocket),
 }
 
-/// Opens a port at a place.
+/// Opens a port at an address.
 pub(crate) fn open_at<R: Files + Net>(
     rt: &R,
     registry: &Registry,
     token: Token,
-    place: &PortPlace,
+    address: &PortAddress,
     mode: u32,
 ) -> io::Result<Opened> {
-    let socket = match place {
-        Setting::Tcp(_) | Setting::Unix(_) => {
-            let listener = listen(rt, registry, token, place, mode)?;
+    let socket = match address {
+        PortAddress::Tcp(_) | PortAddress::Unix(_) => {
+            let listener = listen(rt, registry, token, address, mode)?;
             return Ok(Opened::Listener(listener));
         }
-        Setting::Udp(address) => PacketSocket::bind(rt, registry, token, *address)?,
-        Setting::UdpTo(address) => PacketSocket::connect(rt, registry, token, *address)?,
-        Setting::Descriptor(number) => open_descriptor(registry, token, *number)?,
+        PortAddress::Udp(address) => PacketSocket::bind(rt, registry, token, *address)?,
+        PortAddress::UdpTo(address) => PacketSocket::connect(rt, registry, token, *address)?,
+        PortAddress::Descriptor(number) => open_descriptor(registry, token, *number)?,
     };
     Ok(Opened::Packets(socket))
 }
@@ -68,18 +69,18 @@ fn open_descriptor(registry: &Registry, token: Token, number: u32) -> io::Result
     }
 }
 
-/// Listens at a place.
+/// Listens at an address.
 pub fn listen<R: Files + Net>(
     rt: &R,
     registry: &Registry,
     token: Token,
-    place: &PortPlace,
+    address: &PortAddress,
     mode: u32,
 ) -> io::Result<Listener> {
-    let mut listener = match place {
-        Setting::Tcp(address) => Listener::bind(rt, *address)?,
-        Setting::Unix(path) => Listener::bind_path(rt, path.as_str(), mode)?,
-        Setting::Udp(_) | Setting::UdpTo(_) | Setting::Descriptor(_) => {
+    let mut listener = match address {
+        PortAddress::Tcp(address) => Listener::bind(rt, *address)?,
+        PortAddress::Unix(path) => Listener::bind_path(rt, path.as_str(), mode)?,
+        PortAddress::Udp(_) | PortAddress::UdpTo(_) | PortAddress::Descriptor(_) => {
             return Err(Error::from(ErrorKind::Unsupported));
         }
     };
@@ -88,13 +89,13 @@ pub fn listen<R: Files + Net>(
 }
 
 /// Removes the file of a Unix socket.
-pub fn remove_file<R: Files>(rt: &R, place: &PortPlace) {
-    if let Setting::Unix(path) = place {
+pub fn remove_file<R: Files>(rt: &R, address: &PortAddress) {
+    if let PortAddress::Unix(path) = address {
         let _ = fs::remove_file(rt, path.as_str());
     }
 }
 
-/// The place of a control listener, as that of a port.
-pub fn place_of_control(alloc: Global, listener: &ListenerPlace) -> io::Result<PortPlace> {
+/// The address of a control listener, as that of a port.
+pub fn address_of_control(alloc: Global, listener: &ListenerAddress) -> io::Result<PortAddress> {
     Ok(listener.port(alloc)?)
 }

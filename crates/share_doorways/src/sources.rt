@@ -59,8 +59,8 @@ impl Sources {
 
     /// Gives a source another meaning.
     pub fn set(&mut self, token: Token, source: Source) {
-        if let Some(place) = self.all.get_mut(token.0) {
-            *place = source;
+        if let Some(entry) = self.all.get_mut(token.0) {
+            *entry = source;
         }
     }
 

@@ -134,15 +134,15 @@ gives_less {T} delivers t u c d old new flow seq tariff gives =
     omega (arith, all, long)
 
 -- it takes its own bytes away
-pub frame_left : (old new given payload : List ℕ) (flow seq tariff held : ℕ)
+pub frame_left : (old new given payload : List ℕ) (flow seq tariff buffered : ℕ)
     → GivesFrame old tariff (record { flow = flow; seq = seq; payload = given }) new → payload ≡ given
-    → held ≡ length old → held ≡ 17 + length payload + length new
-frame_left old new given payload flow seq tariff held gives same held_is =
+    → buffered ≡ length old → buffered ≡ 17 + length payload + length new
+frame_left old new given payload flow seq tariff buffered gives same buffered_is =
     let head : Packet = record { flow = flow; seq = seq; payload = given } in
     let all = ap (λ (x : List ℕ). length x) gives.bytes ∙ length-append (frame Two tariff head) new in
     let long = length-frame Two tariff head in
     let size = ap (λ (x : List ℕ). length x) same in
-    omega (arith, all, long, size, held_is)
+    omega (arith, all, long, size, buffered_is)
 
 -- ---- The connections of a downlink
 

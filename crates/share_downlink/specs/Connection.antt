@@ -104,12 +104,12 @@ FirstMayEnd Waits old c = EndsOrWaits old c
 -- bytes of the stream came, and the packet of the frame in front of all that were there was given
 pub record FirstOne {T : Type 0} (delivers : T → ℕ → List ℕ → Bool → T → Type 0) (before : T) (c : Counts)
     (old : IncomingView) (after : T) (d : Counts) (new : IncomingView) : Type 0 where
-  pub held : IncomingView
-  pub comes : ComesMore old held
+  pub buffered : IncomingView
+  pub comes : ComesMore old buffered
   pub flow : ℕ
   pub seq : ℕ
   pub tariff : ℕ
-  pub gives : GivesOne delivers before c held flow seq tariff after d new
+  pub gives : GivesOne delivers before c buffered flow seq tariff after d new
 
 -- bytes of the stream came, and nothing was given
 pub record FirstNone {T : Type 0} (before : T) (c : Counts) (old : IncomingView) (after : T) (d : Counts)

@@ -22,7 +22,7 @@ pub(crate) struct Incoming {
     frames: Frames,
     // The bytes of the stream that the given frames have, and the bytes that came and were not given.
     offset: u64,
-    held: usize,
+    buffered: usize,
 }
 
 impl Model for Incoming {
@@ -33,7 +33,7 @@ impl Model for Incoming {
 
     ghost view = { λ i. record { bytes = i.frames.bytes; payload = i.frames.payload; offset = i.offset } };
 
-    ghost invariant = { λ i. i.held ≡ length i.frames.bytes };
+    ghost invariant = { λ i. i.buffered ≡ length i.frames.bytes };
 }
 
 impl Incoming {
@@ -45,7 +45,7 @@ impl Incoming {
         Ok(Incoming {
             frames: Frames::new(alloc)?,
             offset: 0,
-            held: 0,
+            buffered: 0,
         })
     }
 
@@ -59,9 +59,9 @@ impl Incoming {
     /// Whether no byte is there that was not given.
     pub(crate) fn is_empty(&self) -> bool
         ensures empty { result ≡ true → self.now.bytes ≡ [] }
-        ensures held { result ≡ false → self.now.bytes ≢ [] }
+        ensures buffered { result ≡ false → self.now.bytes ≢ [] }
     {
-        self.held == 0
+        self.buffered == 0
     }
 
     /// Takes the next piece of the stream, for which there is room.
@@ -69,7 +69,7 @@ impl Incoming {
         requires { length self.old.bytes + length piece.now ≤ 65536 }
         ensures { self.new ≡ fed piece.now self.old }
     {
-        self.held += self.frames.feed(piece);
+        self.buffered += self.frames.feed(piece);
     }
 
     /// Gives the packet of the frame in front, if a whole frame is there, and counts it.
@@ -81,7 +81,7 @@ impl Incoming {
             let payload = self.frames.payload();
             let size = HEADER2 + payload.len();
             let is_known = taker.deliver(flow, payload);
-            self.held -= size;
+            self.buffered -= size;
             counts.count(size, is_known);
             self.offset = self.offset.saturating_add(size as u64);
         }

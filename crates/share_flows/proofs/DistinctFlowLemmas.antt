@@ -14,7 +14,7 @@ use Rattle.share_flows.specs.Stamps.{BufferView}
 use Rattle.share_base.specs.Body.{BodyView}
 use Rattle.share_model.specs.link.Buffers.{is_buffer_of, buffer_of, new_buffer, is_full, with_packet, open_in}
 use Rattle.share_model.proofs.lemmas.lists.FirstItemLemmas.{is_some-find_number}
-use Rattle.share_flows.specs.Places.{AreApart}
+use Rattle.share_flows.specs.BufferHandles.{AreApart}
 
 pub apart-none : (bs : List BufferView) → bs ≡ [] → AreApart bs
 unfolding IsDistinct

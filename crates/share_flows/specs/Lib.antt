@@ -1,3 +1,3 @@
 pub mod Limit
-pub mod Places
+pub mod BufferHandles
 pub mod Stamps

@@ -6,7 +6,7 @@ ghost use Rattle.share_base.specs.Refusal.{IsRefused};
 ghost use Rattle.share_base.specs.declared.refusal.Refusal.TheVariants.{NoMemory};
 ghost use Rattle.share_model.specs.link.Buffers.{buffer_of, is_buffer_of, open_in, close_in, count_in, push_in, pop_in};
 ghost use Rattle.share_model.specs.link.Buffers.{backlog_of, is_full, head_of, is_busy, payloads_in};
-ghost use Rattle.share_flows.specs.Places.{Stands, AreApart};
+ghost use Rattle.share_flows.specs.BufferHandles.{Stands, AreApart};
 ghost use Rattle.share_flows.specs.Stamps.{stamp_in};
 ghost use Rattle.share_flows.specs.Limit.{limit_refusal};
 
@@ -19,9 +19,9 @@ use std::marker::Model;
 /// The number of buffers with room at the start. A buffer beyond them takes memory for its place when it is opened.
 const ROOM: usize = 64;
 
-/// The place of a flow's buffer, as `find` gave it. It is good while no buffer is opened or closed.
+/// The handle of a flow's buffer, as `find` gave it. It is good while no buffer is opened or closed.
 #[derive(Clone, Copy, Debug)]
-pub struct Place {
+pub struct BufferHandle {
     pub flow: FlowNo,
     pub at: usize,
 }
@@ -43,7 +43,7 @@ impl Drop for Buffers {
 impl Model for Buffers {
     ghost use Rattle.std.specs.Prelude.{List};
     ghost use Rattle.share_flows.specs.Stamps.{BufferView};
-    ghost use Rattle.share_flows.specs.Places.{AreApart};
+    ghost use Rattle.share_flows.specs.BufferHandles.{AreApart};
 
     ghost Value = { List BufferView };
 
@@ -80,26 +80,26 @@ impl Buffers {
         Ok(())
     }
 
-    /// The place of a flow's buffer. `None` if the flow is not open. It takes no memory.
-    pub fn find(&self, flow: FlowNo) -> Option<Place>
+    /// The handle of a flow's buffer. `None` if the flow is not open. It takes no memory.
+    pub fn find(&self, flow: FlowNo) -> Option<BufferHandle>
         ensures { MatchOption result (buffer_of self.now flow ≡ None)
-            (λ place. (place.flow ≡ flow) × IsSome (buffer_of self.now flow) × Stands self.now place) }
+            (λ handle. (handle.flow ≡ flow) × IsSome (buffer_of self.now flow) × Stands self.now handle) }
     {
         match place_of(self.rings.as_slice(), flow) {
             None => None,
-            Some(at) => Some(Place { flow, at }),
+            Some(at) => Some(BufferHandle { flow, at }),
         }
     }
 
-    // The place of an open flow's buffer.
-    fn place(&self, flow: FlowNo) -> Place
+    // The handle of an open flow's buffer.
+    fn handle(&self, flow: FlowNo) -> BufferHandle
         requires { IsSome (buffer_of self.now flow) }
         ensures flow { result.flow ≡ flow }
         ensures stands { Stands self.now result }
     {
         match self.find(flow) {
             None => unreachable!(),
-            Some(place) => place,
+            Some(handle) => handle,
         }
     }
 
@@ -108,8 +108,8 @@ impl Buffers {
         requires { IsSome (buffer_of self.now flow) }
         ensures { IfSome (buffer_of self.now flow) (λ b. result ≡ b.next) }
     {
-        let place = self.place(flow);
-        self.rings[place.at].next_number()
+        let handle = self.handle(flow);
+        self.rings[handle.at].next_number()
     }
 
     /// Puts a packet at the back of a flow's buffer and gives its sequence number, which counts the packets from 1. If
@@ -126,25 +126,25 @@ impl Buffers {
             × IfSome (buffer_of self.old flow) (λ b. is_full b ≡ true)
             × (self.new ≡ self.old)) }
     {
-        let place = self.place(flow);
-        self.push_at(&place, body)
+        let handle = self.handle(flow);
+        self.push_at(&handle, body)
     }
 
-    /// The same, at a place, which stays good.
-    pub fn push_at(&mut self, place: &Place, body: Body) -> Result<u32, Body>
-        requires there { Stands self.old place.now }
-        requires numbers { IfSome (buffer_of self.old place.now.flow)
+    /// The same, by a handle, which stays good.
+    pub fn push_at(&mut self, handle: &BufferHandle, body: Body) -> Result<u32, Body>
+        requires there { Stands self.old handle.now }
+        requires numbers { IfSome (buffer_of self.old handle.now.flow)
             (λ b. is_full b ≡ false → b.next < 2 ^ 32) }
         ensures ok { IfOk result (λ number.
-            IfSome (buffer_of self.old place.now.flow) (λ b. (number ≡ b.next) × (is_full b ≡ false))
-            × (self.new ≡ push_in self.old place.now.flow body)) }
+            IfSome (buffer_of self.old handle.now.flow) (λ b. (number ≡ b.next) × (is_full b ≡ false))
+            × (self.new ≡ push_in self.old handle.now.flow body)) }
         ensures full { IfErr result (λ back.
             (back ≡ body)
-            × IfSome (buffer_of self.old place.now.flow) (λ b. is_full b ≡ true)
+            × IfSome (buffer_of self.old handle.now.flow) (λ b. is_full b ≡ true)
             × (self.new ≡ self.old)) }
-        ensures stands { Stands self.new place.now }
+        ensures stands { Stands self.new handle.now }
     {
-        let ring = &mut self.rings[place.at];
+        let ring = &mut self.rings[handle.at];
         ring.push(body)
     }
 
@@ -154,24 +154,24 @@ impl Buffers {
         ensures { head_of self.now flow
             ≡ Some (record { flow = flow; seq = result.0; payload = result.1.now }) }
     {
-        let Some(place) = self.find(flow) else {
+        let Some(handle) = self.find(flow) else {
             unreachable!()
         };
-        match self.head_at(&place) {
+        match self.head_at(&handle) {
             None => unreachable!(),
             Some(head) => head,
         }
     }
 
-    /// The sequence number and the payload of the head packet at a place. `None` if the buffer is empty. It takes no
-    /// memory.
-    pub fn head_at(&self, place: &Place) -> Option<(u32, &Body)>
-        requires { Stands self.now place.now }
-        ensures { MatchOption result (head_of self.now place.now.flow ≡ None) (λ h.
-            head_of self.now place.now.flow
-            ≡ Some (record { flow = place.now.flow; seq = h.0; payload = h.1.now })) }
+    /// The sequence number and the payload of the head packet of a handle's buffer. `None` if the buffer is empty. It
+    /// takes no memory.
+    pub fn head_at(&self, handle: &BufferHandle) -> Option<(u32, &Body)>
+        requires { Stands self.now handle.now }
+        ensures { MatchOption result (head_of self.now handle.now.flow ≡ None) (λ h.
+            head_of self.now handle.now.flow
+            ≡ Some (record { flow = handle.now.flow; seq = h.0; payload = h.1.now })) }
     {
-        self.rings[place.at].head()
+        self.rings[handle.at].head()
     }
 
     /// Takes the head packet out of a flow's buffer, which holds one, and gives its payload. It takes no memory.
@@ -182,19 +182,19 @@ impl Buffers {
     {
         match self.find(flow) {
             None => unreachable!(),
-            Some(place) => self.pop_at(&place),
+            Some(handle) => self.pop_at(&handle),
         }
     }
 
-    /// The same, at a place, which stays good.
-    pub fn pop_at(&mut self, place: &Place) -> Body
-        requires there { Stands self.old place.now }
-        requires busy { IsTrue (is_busy self.old place.now.flow) }
-        ensures head { option_map (λ h. h.payload) (head_of self.old place.now.flow) ≡ Some result }
-        ensures after { self.new ≡ pop_in self.old place.now.flow }
-        ensures stands { Stands self.new place.now }
+    /// The same, by a handle, which stays good.
+    pub fn pop_at(&mut self, handle: &BufferHandle) -> Body
+        requires there { Stands self.old handle.now }
+        requires busy { IsTrue (is_busy self.old handle.now.flow) }
+        ensures head { option_map (λ h. h.payload) (head_of self.old handle.now.flow) ≡ Some result }
+        ensures after { self.new ≡ pop_in self.old handle.now.flow }
+        ensures stands { Stands self.new handle.now }
     {
-        let ring = &mut self.rings[place.at];
+        let ring = &mut self.rings[handle.at];
         ring.pop()
     }
 
@@ -208,20 +208,20 @@ impl Buffers {
     {
         match self.find(flow) {
             None => unreachable!(),
-            Some(place) => self.stamp_at(&place, header),
+            Some(handle) => self.stamp_at(&handle, header),
         }
     }
 
-    /// The same, at a place, which stays good.
-    pub fn stamp_at(&mut self, place: &Place, header: &[u8])
-        requires there { Stands self.old place.now }
-        requires busy { IsTrue (is_busy self.old place.now.flow) }
+    /// The same, by a handle, which stays good.
+    pub fn stamp_at(&mut self, handle: &BufferHandle, header: &[u8])
+        requires there { Stands self.old handle.now }
+        requires busy { IsTrue (is_busy self.old handle.now.flow) }
         requires header { IsHeaderLength (length header.now) }
-        ensures after { self.new ≡ stamp_in self.old place.now.flow header.now }
+        ensures after { self.new ≡ stamp_in self.old handle.now.flow header.now }
         ensures payloads { payloads_in self.new ≡ payloads_in self.old }
-        ensures stands { Stands self.new place.now }
+        ensures stands { Stands self.new handle.now }
     {
-        let ring = &mut self.rings[place.at];
+        let ring = &mut self.rings[handle.at];
         ring.stamp(header);
     }
 
@@ -233,7 +233,7 @@ impl Buffers {
     {
         match self.find(flow) {
             None => 0,
-            Some(place) => self.rings[place.at].count(),
+            Some(handle) => self.rings[handle.at].count(),
         }
     }
 
@@ -241,8 +241,8 @@ impl Buffers {
     pub fn backlog(&self, flow: FlowNo) -> Option<Backlog>
         ensures { result ≡ backlog_of self.now flow }
     {
-        let place = self.find(flow)?;
-        Some(self.rings[place.at].backlog())
+        let handle = self.find(flow)?;
+        Some(self.rings[handle.at].backlog())
     }
 
     /// Whether a flow is open and its buffer holds a packet. It takes no memory.
@@ -251,16 +251,16 @@ impl Buffers {
     {
         match self.find(flow) {
             None => false,
-            Some(place) => self.is_busy_at(&place),
+            Some(handle) => self.is_busy_at(&handle),
         }
     }
 
-    /// Whether the buffer at a place holds a packet. It takes no memory.
-    pub fn is_busy_at(&self, place: &Place) -> bool
-        requires { Stands self.now place.now }
-        ensures { result ≡ is_busy self.now place.now.flow }
+    /// Whether the buffer of a handle has a packet. It takes no memory.
+    pub fn is_busy_at(&self, handle: &BufferHandle) -> bool
+        requires { Stands self.now handle.now }
+        ensures { result ≡ is_busy self.now handle.now.flow }
     {
-        self.rings[place.at].is_busy()
+        self.rings[handle.at].is_busy()
     }
 
     /// Closes the buffer of a flow, drops its packets and returns their number. It takes no memory.
@@ -269,8 +269,8 @@ impl Buffers {
         ensures held { result ≡ count_in self.old flow }
         ensures after { self.new ≡ close_in self.old flow }
     {
-        let place = self.place(flow);
-        let ring = self.rings.remove(place.at);
+        let handle = self.handle(flow);
+        let ring = self.rings.remove(handle.at);
         ring.count()
     }
 }

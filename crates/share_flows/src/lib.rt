@@ -4,5 +4,5 @@
 mod buffers;
 mod ring;
 
-pub use buffers::{Buffers, Place};
+pub use buffers::{BufferHandle, Buffers};
 pub use ring::MAX_LIMIT;

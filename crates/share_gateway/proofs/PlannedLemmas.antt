@@ -25,7 +25,8 @@ use Rattle.share_model.specs.declared.funding.OpenFlow.{OpenFlow as FlowEntry}
 use Rattle.share_model.specs.declared.funding.Ticket.{Ticket}
 use Rattle.share_model.specs.declared.link.Book.{Book}
 use Rattle.share_model.specs.declared.rates.Rate.{Rate}
-use Rattle.share_model.specs.funding.Changes.{make_currency, is_numbered, held_by, with_holder, flow_named, flow_number}
+use Rattle.share_model.specs.funding.Changes.{make_currency, is_numbered, with_its_holder, with_holder, flow_named}
+use Rattle.share_model.specs.funding.Changes.{flow_number}
 use Rattle.share_model.specs.funding.Changes.{is_open_as, active_as, make_ticket, fund_currency, fund_flow}
 use Rattle.share_model.specs.funding.Changes.{add_flow, remove_flow, set_active}
 use Rattle.share_model.specs.funding.Graph.{NameBytes, Graph}
@@ -464,17 +465,18 @@ module _ (rates : List Rate) (cs : List NameBytes) (ts : List TenantView) (nf : 
         → Each (λ (t : Ticket). t.number < n) tickets → IsToNamed ts to
         → Leads rates (Issued (n + 1) (tickets ++ unfunded n amount denomination ∷ []))
         (planned e (fund_command to n) ∷ [])
-        (Issued (n + 1) (tickets ++ held_by (holder_of to) (unfunded n amount denomination) ∷ []))
+        (Issued (n + 1) (tickets ++ with_its_holder (holder_of to) (unfunded n amount denomination) ∷ []))
     ticket_funds e n amount denomination tickets (ToCurrency i c) below named =
         let own : nat_eq n n ≡ true = grind (arith, nat_tests) in
         let made = unfunded n amount denomination in
         leads_one rates (Issued (n + 1) (tickets ++ made ∷ []))
-        (Issued (n + 1) (tickets ++ held_by (Currency c.name) made ∷ []))
+        (Issued (n + 1) (tickets ++ with_its_holder (Currency c.name) made ∷ []))
         (planned e (FundCurrency n c.name)) (λ l was allowed. record {
           graph =
               ap (λ (g : Graph). fund_currency g n c.name) was.graph
               ∙ ap (λ tickets. drawn cs tickets (n + 1) (map planned_flow ts) nf)
-              (last_changed (is_numbered n) (held_by (Currency c.name)) tickets [] made (other_tickets n tickets below)
+              (last_changed (is_numbered n) (with_its_holder (Currency c.name)) tickets []
+              made (other_tickets n tickets below)
               own);
           buffers = was.buffers;
           books = was.books;
@@ -483,7 +485,7 @@ module _ (rates : List Rate) (cs : List NameBytes) (ts : List TenantView) (nf : 
         let own : nat_eq n n ≡ true = grind (arith, nat_tests) in
         let made = unfunded n amount denomination in
         leads_one rates (Issued (n + 1) (tickets ++ made ∷ []))
-        (Issued (n + 1) (tickets ++ held_by (Flow t.flow) made ∷ []))
+        (Issued (n + 1) (tickets ++ with_its_holder (Flow t.flow) made ∷ []))
         (planned e (FundFlow n t.name)) (λ l was allowed. record {
           graph =
               ap (λ (g : Graph). fund_flow g n t.name) was.graph
@@ -491,7 +493,8 @@ module _ (rates : List Rate) (cs : List NameBytes) (ts : List TenantView) (nf : 
               (n + 1)
               (map planned_flow ts) nf) named
               ∙ ap (λ tickets. drawn cs tickets (n + 1) (map planned_flow ts) nf)
-              (last_changed (is_numbered n) (held_by (Flow t.flow)) tickets [] made (other_tickets n tickets below)
+              (last_changed (is_numbered n) (with_its_holder (Flow t.flow)) tickets []
+              made (other_tickets n tickets below)
               own);
           buffers = was.buffers;
           books = was.books;

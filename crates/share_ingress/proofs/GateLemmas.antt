@@ -1,4 +1,4 @@
--- The outcome of the calls of a worker, call after call: those of its gate, and the turns of its reader.
+-- The outcome of the calls of a worker, call after call: those of its gate, and the reads that its reader has left.
 use Rattle.std.proofs.Common.{◌≡◌, inl, inr, ℕ, suc, ◌+◌, ◌-◌, Bool, true, length, Option, None, Some, IfSome}
 use Rattle.std.proofs.Common.{List, arith, refl, sym, ap, ◌∙◌, subst}
 use Rattle.std.proofs.lemmas.List.{length-append}
@@ -40,14 +40,14 @@ came_back e old new rounds same (inr counted) (inr full) =
     inr (ap (λ (d : EndView). d.refused) full.0 ∙ ap one_higher counted ∙ ap (λ n. raises e.refused n) next)
 
 module _ {G : Type 0} (told : G → GateCall → G → Type 0) where
-  pub waits_none : (e : EndView) (turns : ℕ) (g : G) → Waits told e turns g turns e.refused g
-  waits_none e turns g = record { rounds = 0; again = not_again; spent = omega arith; came_back = inr refl }
+  pub waits_none : (e : EndView) (reads_left : ℕ) (g : G) → Waits told e reads_left g reads_left e.refused g
+  waits_none e reads_left g = record { rounds = 0; again = not_again; spent = omega arith; came_back = inr refl }
 
-  module _ (e old new : EndView) (turns left : ℕ) (first before after : G)
-      (same : old ≡ record e { refused = old.refused }) (waits : Waits told e turns first left old.refused before)
+  module _ (e old new : EndView) (reads_left left : ℕ) (first before after : G)
+      (same : old ≡ record e { refused = old.refused }) (waits : Waits told e reads_left first left old.refused before)
       (back : CameBack old new) where
     pub waits_more : (now : ℕ) → told before (queue_full true) after → now + 1 ≡ left
-        → Waits told e turns first now new.refused after
+        → Waits told e reads_left first now new.refused after
     waits_more now asked spent =
         record {
           rounds = waits.rounds + 1;
@@ -57,9 +57,9 @@ module _ {G : Type 0} (told : G → GateCall → G → Type 0) where
         }
 
     pub drops : (now : ℕ) (why : Why) (again : Bool) → now ≡ left → told before (queue_full again) after
-        → MayDrop why again left → Drops told e turns first now new.refused why after
+        → MayDrop why again left → Drops told e reads_left first now new.refused why after
     drops now why again turned asked reason =
-        subst (λ l. Drops told e turns first l new.refused why after) (sym turned)
+        subst (λ l. Drops told e reads_left first l new.refused why after) (sym turned)
         (record {
           asked = before;
           earlier = old.refused;
@@ -89,7 +89,7 @@ module _ {R G : Type 0} (gives : R → List ℕ → Got → R → Type 0) (told 
         items = 0;
         rounds = 0;
         queued = none_queued;
-        spent = record { count = 0; reads = no_reads; turns = omega arith };
+        spent = record { count = 0; reads = no_reads; reads_left = omega arith };
         long = omega arith;
       }
 
@@ -101,7 +101,7 @@ module _ {R G : Type 0} (gives : R → List ℕ → Got → R → Type 0) (told 
         record {
           count = f.spent.count + calls.count;
           reads = reads_more f.spent.count calls.count f.spent.reads calls.reads;
-          turns = omega (arith, f.spent.turns, calls.turns);
+          reads_left = omega (arith, f.spent.reads_left, calls.reads_left);
         }
 
     numbered : (n first count : ℕ) → first ≡ length start.pushed → count ≡ length e.pushed → n ≡ count - first + 1
@@ -119,7 +119,8 @@ module _ {R G : Type 0} (gives : R → List ℕ → Got → R → Type 0) (told 
 
       -- and queued
       pub running_more : (after : Reading R) (waited last : G) (done : EndView) (name payload : List ℕ)
-          → after ≡ record new { turns = after.turns } → Waits told e new.turns asked after.turns done.refused waited
+          → after ≡ record new { reads_left = after.reads_left }
+          → Waits told e new.reads_left asked after.reads_left done.refused waited
           → told waited (item_queued n) last → done ≡ record (with_offer e name payload) { refused = done.refused }
           → HasQueuedSome gives told reader start gate after done last
       running_more after waited last done name payload turned waits queued put =
@@ -136,20 +137,20 @@ module _ {R G : Type 0} (gives : R → List ℕ → Got → R → Type 0) (told 
             spent = record {
               count = spent.count;
               reads = subst (λ r. Reads gives reader.reader spent.count r) (sym same) spent.reads;
-              turns = omega (arith, spent.turns, waits.spent);
+              reads_left = omega (arith, spent.reads_left, waits.spent);
             };
             long = ap (λ (d : EndView). length d.pushed) put ∙ length-append e.pushed _ ∙ omega (arith, f.long);
           }
 
-      module _ (left : Reading R) (unread : left ≡ record new { turns = left.turns }) where
+      module _ (left : Reading R) (unread : left ≡ record new { reads_left = left.reads_left }) where
         drops_next : (why : Why) (done : EndView) (last : G)
-            → Drops told e new.turns asked left.turns done.refused why last
+            → Drops told e new.reads_left asked left.reads_left done.refused why last
             → done ≡ record e { refused = done.refused } → DropsNext gives told (f.items + 1) e new why g done last left
         drops_next why done last dropped same =
             record { asked = asked; next = told_next; dropped = dropped; same = same; unread = unread }
 
         finishes : (why : Why) (done : EndView) (last : G)
-            → Drops told e new.turns asked left.turns done.refused why last
+            → Drops told e new.reads_left asked left.reads_left done.refused why last
             → done ≡ record e { refused = done.refused } → Finishes gives told (f.items + 1) e new g why done last left
         finishes (Over over) done last dropped same = inr (drops_next (Over over) done last dropped same)
         finishes Stopped done last dropped same = drops_next Stopped done last dropped same
@@ -157,7 +158,8 @@ module _ {R G : Type 0} (gives : R → List ℕ → Got → R → Type 0) (told 
 
         -- and dropped
         pub ran_dropped : (why : Why) (last : G) (done : EndView)
-            → Drops told e new.turns asked left.turns done.refused why last → done ≡ record e { refused = done.refused }
+            → Drops told e new.reads_left asked left.reads_left done.refused why last
+            → done ≡ record e { refused = done.refused }
             → WorkerRan gives told reader start gate (n - 1) why done last left
         ran_dropped why last done dropped same =
             let one_less : n - 1 ≡ f.items = omega (arith, n_items) in

@@ -43,17 +43,18 @@ known_later None b P f h = tt
 known_later (Some xs) None P f h = absurd f
 known_later (Some xs) (Some ys) P f h = subst P f h
 
--- bytes that were read are held
-keeps_read : (held bs : List ℕ) (a b : Option (List ℕ)) → Consumes a b bs
-    → Keeps (prepend_known held a) (prepend_known (held ++ bs) b)
-keeps_read held bs None b f = tt
-keeps_read held bs (Some xs) None f = absurd f
-keeps_read held bs (Some xs) (Some ys) f = append_assoc held bs ys ∙ ap (λ t. held ++ t) (sym f)
+-- bytes that were read are buffered
+keeps_read : (buffered bs : List ℕ) (a b : Option (List ℕ)) → Consumes a b bs
+    → Keeps (prepend_known buffered a) (prepend_known (buffered ++ bs) b)
+keeps_read buffered bs None b f = tt
+keeps_read buffered bs (Some xs) None f = absurd f
+keeps_read buffered bs (Some xs) (Some ys) f = append_assoc buffered bs ys ∙ ap (λ t. buffered ++ t) (sym f)
 
-keeps_held : (held : List ℕ) (a b : Option (List ℕ)) → Keeps a b → Keeps (prepend_known held a) (prepend_known held b)
-keeps_held held None b f = tt
-keeps_held held (Some xs) None f = absurd f
-keeps_held held (Some xs) (Some ys) f = ap (λ t. held ++ t) f
+keeps_buffered : (buffered : List ℕ) (a b : Option (List ℕ)) → Keeps a b
+    → Keeps (prepend_known buffered a) (prepend_known buffered b)
+keeps_buffered buffered None b f = tt
+keeps_buffered buffered (Some xs) None f = absurd f
+keeps_buffered buffered (Some xs) (Some ys) f = ap (λ t. buffered ++ t) f
 
 -- at the end nothing more was read
 keeps_end : (a b : Option (List ℕ)) → Consumes a b [] → Keeps a b
@@ -61,21 +62,22 @@ keeps_end None b f = tt
 keeps_end (Some xs) None f = absurd f
 keeps_end (Some xs) (Some ys) f = sym f
 
-consumes_front : (held front rest : List ℕ) (a : Option (List ℕ)) → held ≡ front ++ rest
-    → Consumes (prepend_known held a) (prepend_known rest a) front
-consumes_front held front rest None e = tt
-consumes_front held front rest (Some xs) e = rw e (append_assoc front rest xs)
+consumes_front : (buffered front rest : List ℕ) (a : Option (List ℕ)) → buffered ≡ front ++ rest
+    → Consumes (prepend_known buffered a) (prepend_known rest a) front
+consumes_front buffered front rest None e = tt
+consumes_front buffered front rest (Some xs) e = rw e (append_assoc front rest xs)
 
 pub any_known : (a : Option (List ℕ)) → IfSome a (λ _. Unit {0})
 any_known None = tt
 any_known (Some xs) = tt
 
-whole_at_end : (held : List ℕ) (a b : Option (List ℕ)) (P : List ℕ → Type 0) → Consumes a b [] → IsAtEnd b → P held
-    → IfSome (prepend_known held a) P
-whole_at_end held None b P f end h = tt
-whole_at_end held (Some xs) None P f end h = absurd f
-whole_at_end held (Some xs) (Some ys) P f end h =
-    subst P (sym (append-nil held) ∙ ap (λ t. held ++ t) (sym (f ∙ end))) h
+whole_at_end : (buffered : List ℕ) (a b : Option (List ℕ)) (P : List ℕ → Type 0) → Consumes a b [] → IsAtEnd b
+    → P buffered
+    → IfSome (prepend_known buffered a) P
+whole_at_end buffered None b P f end h = tt
+whole_at_end buffered (Some xs) None P f end h = absurd f
+whole_at_end buffered (Some xs) (Some ys) P f end h =
+    subst P (sym (append-nil buffered) ∙ ap (λ t. buffered ++ t) (sym (f ∙ end))) h
 
 bad_still : (bs more : List ℕ) → IsBad bs → IsBad (bs ++ more)
 bad_still bs more (bad_name_length n rest out is) = bad_name_length n (rest ++ more) out (ap (λ t. t ++ more) is)
@@ -85,9 +87,10 @@ bad_still bs more (bad_length name high low rest good out is) =
     bad_length name high low (rest ++ more) good out
     (ap (λ t. t ++ more) is ∙ append_assoc (length name ∷ name) (high ∷ low ∷ rest) more)
 
-pub bad_known : (held : List ℕ) (a : Option (List ℕ)) → IsBad held → IfSome (prepend_known held a) (λ bs. IsBad bs)
-bad_known held None bad = tt
-bad_known held (Some xs) bad = bad_still held xs bad
+pub bad_known : (buffered : List ℕ) (a : Option (List ℕ)) → IsBad buffered
+    → IfSome (prepend_known buffered a) (λ bs. IsBad bs)
+bad_known buffered None bad = tt
+bad_known buffered (Some xs) bad = bad_still buffered xs bad
 
 -- One call
 
@@ -95,65 +98,66 @@ module _ {R : Type 0} (gives : R → List ℕ → Got → R → Type 0) (left : 
   pub none_read : (r : Reading R) → r.ended ≡ None → ReadsOn gives left r r
   none_read r still =
       record {
-        calls = record { count = 0; reads = no_reads; turns = omega arith };
+        calls = record { count = 0; reads = no_reads; reads_left = omega arith };
         kept = keeps_refl _;
         open_still = still;
       }
 
-  pub bound_met : (r : Reading R) → r.turns ≡ 0 → NeedsMore r.held → Stops gives left r Bound r
+  pub bound_met : (r : Reading R) → r.reads_left ≡ 0 → NeedsMore r.buffered → Stops gives left r Bound r
   bound_met r none more =
       record {
-        calls = record { count = 0; reads = no_reads; turns = omega arith };
+        calls = record { count = 0; reads = no_reads; reads_left = omega arith };
         kept = keeps_refl _;
         ends = any_known _;
         stands = (none, more);
       }
 
-  pub no_memory : (r : Reading R) → TakesMemory r.held r.turns → Stops gives left r NoMemory r
+  pub no_memory : (r : Reading R) → TakesMemory r.buffered r.reads_left → Stops gives left r NoMemory r
   no_memory r takes =
       record {
-        calls = record { count = 0; reads = no_reads; turns = omega arith };
+        calls = record { count = 0; reads = no_reads; reads_left = omega arith };
         kept = keeps_refl _;
         ends = any_known _;
         stands = takes;
       }
 
-  pub bad_record : (r : Reading R) → IsBad r.held → Stops gives left r BadRecord r
+  pub bad_record : (r : Reading R) → IsBad r.buffered → Stops gives left r BadRecord r
   bad_record r bad =
       record {
-        calls = record { count = 0; reads = no_reads; turns = omega arith };
+        calls = record { count = 0; reads = no_reads; reads_left = omega arith };
         kept = keeps_refl _;
         ends = bad_known _ _ bad;
         stands = bad;
       }
 
   module _ (tells : (before : R) (buffer : List ℕ) (got : Got) (after : R) → gives before buffer got after
-      → Gives (left before) buffer got (left after)) (before after : R) (held : List ℕ) (turns : ℕ) (ended : Option
-      Ended)
+      → Gives (left before) buffer got (left after)) (before after : R) (buffered : List ℕ) (reads_left : ℕ)
+      (ended : Option Ended)
       (buffer : List ℕ) where
-    pub bytes_read : (n : ℕ) → turns ≢ 0 → ended ≡ None → gives before buffer (Bytes n) after
-        → ReadsOn gives left (record { reader = before; held = held; turns = turns; ended = ended })
-        (record { reader = after; held = held ++ take n buffer; turns = turns - 1; ended = ended })
+    pub bytes_read : (n : ℕ) → reads_left ≢ 0 → ended ≡ None → gives before buffer (Bytes n) after
+        → ReadsOn gives left (record { reader = before; buffered = buffered; reads_left = reads_left; ended = ended })
+        (record { reader = after; buffered = buffered ++ take n buffer; reads_left = reads_left - 1; ended = ended })
     bytes_read n some still given =
         record {
-          calls = record { count = 1; reads = reads_once buffer (Bytes n) given tt; turns = omega arith };
-          kept = keeps_read held (take n buffer) _ _ (tells _ _ _ _ given).2;
+          calls = record { count = 1; reads = reads_once buffer (Bytes n) given tt; reads_left = omega arith };
+          kept = keeps_read buffered (take n buffer) _ _ (tells _ _ _ _ given).2;
           open_still = still;
         }
 
-    pub interrupted : turns ≢ 0 → ended ≡ None → gives before buffer Interrupted after
-        → ReadsOn gives left (record { reader = before; held = held; turns = turns; ended = ended })
-        (record { reader = after; held = held; turns = turns - 1; ended = ended })
+    pub interrupted : reads_left ≢ 0 → ended ≡ None → gives before buffer Interrupted after
+        → ReadsOn gives left (record { reader = before; buffered = buffered; reads_left = reads_left; ended = ended })
+        (record { reader = after; buffered = buffered; reads_left = reads_left - 1; ended = ended })
     interrupted some still given =
         record {
-          calls = record { count = 1; reads = reads_once buffer Interrupted given tt; turns = omega arith };
-          kept = keeps_held held _ _ (tells _ _ _ _ given);
+          calls = record { count = 1; reads = reads_once buffer Interrupted given tt; reads_left = omega arith };
+          kept = keeps_buffered buffered _ _ (tells _ _ _ _ given);
           open_still = still;
         }
 
-    pub failed : turns ≢ 0 → gives before buffer Failed after
-        → Stops gives left (record { reader = before; held = held; turns = turns; ended = ended }) Fault
-        (record { reader = after; held = held; turns = turns - 1; ended = ended })
+    pub failed : reads_left ≢ 0 → gives before buffer Failed after
+        → Stops gives left (record { reader = before; buffered = buffered; reads_left = reads_left; ended = ended })
+        Fault
+        (record { reader = after; buffered = buffered; reads_left = reads_left - 1; ended = ended })
     failed some given =
         record {
           calls = record {
@@ -162,16 +166,17 @@ module _ {R : Type 0} (gives : R → List ℕ → Got → R → Type 0) (left : 
             buffer = buffer;
             reads = no_reads;
             last = given;
-            turns = omega arith;
+            reads_left = omega arith;
           };
-          kept = keeps_held held _ _ (tells _ _ _ _ given);
+          kept = keeps_buffered buffered _ _ (tells _ _ _ _ given);
           ends = any_known _;
           stands = (before, buffer, given);
         }
 
-    last_of : turns ≢ 0 → gives before buffer EndOfInput after
-        → LastRead gives (record { reader = before; held = held; turns = turns; ended = ended }) EndOfInput
-        (record { reader = after; held = held; turns = turns - 1; ended = ended })
+    last_of : reads_left ≢ 0 → gives before buffer EndOfInput after
+        → LastRead gives (record { reader = before; buffered = buffered; reads_left = reads_left; ended = ended })
+        EndOfInput
+        (record { reader = after; buffered = buffered; reads_left = reads_left - 1; ended = ended })
     last_of some given =
         record {
           count = 0;
@@ -179,24 +184,25 @@ module _ {R : Type 0} (gives : R → List ℕ → Got → R → Type 0) (left : 
           buffer = buffer;
           reads = no_reads;
           last = given;
-          turns = omega arith;
+          reads_left = omega arith;
         }
 
-    pub ended_input : (over : Ended) → turns ≢ 0 → EndsInput held over → gives before buffer EndOfInput after
-        → Stops gives left (record { reader = before; held = held; turns = turns; ended = ended }) over
-        (record { reader = after; held = held; turns = turns - 1; ended = ended })
+    pub ended_input : (over : Ended) → reads_left ≢ 0 → EndsInput buffered over → gives before buffer EndOfInput after
+        → Stops gives left (record { reader = before; buffered = buffered; reads_left = reads_left; ended = ended })
+        over
+        (record { reader = after; buffered = buffered; reads_left = reads_left - 1; ended = ended })
     ended_input End some is given = let told = tells _ _ _ _ given in
         record {
           calls = last_of some given;
-          kept = keeps_held held _ _ (keeps_end _ _ told.0);
-          ends = whole_at_end held _ _ (λ bs. bs ≡ []) told.0 told.1 is;
+          kept = keeps_buffered buffered _ _ (keeps_end _ _ told.0);
+          ends = whole_at_end buffered _ _ (λ bs. bs ≡ []) told.0 told.1 is;
           stands = (is, (before, buffer, given));
         }
     ended_input Cut some is given = let told = tells _ _ _ _ given in
         record {
           calls = last_of some given;
-          kept = keeps_held held _ _ (keeps_end _ _ told.0);
-          ends = whole_at_end held _ _ (λ bs. IsCut bs) told.0 told.1 is;
+          kept = keeps_buffered buffered _ _ (keeps_end _ _ told.0);
+          ends = whole_at_end buffered _ _ (λ bs. IsCut bs) told.0 told.1 is;
           stands = (is, (before, buffer, given));
         }
     ended_input BadRecord some is given = absurd is
@@ -211,7 +217,7 @@ module _ {R : Type 0} (gives : R → List ℕ → Got → R → Type 0) (left : 
       record {
         count = f.count + g.count;
         reads = reads_more f.count g.count f.reads g.reads;
-        turns = omega (arith, f.turns, g.turns);
+        reads_left = omega (arith, f.reads_left, g.reads_left);
       }
 
   last_later : {a b c : Reading R} {got : Got} → GoesOnReading gives a b → LastRead gives b got c
@@ -223,7 +229,7 @@ module _ {R : Type 0} (gives : R → List ℕ → Got → R → Type 0) (left : 
         buffer = g.buffer;
         reads = reads_more f.count g.count f.reads g.reads;
         last = g.last;
-        turns = omega (arith, f.turns, g.turns);
+        reads_left = omega (arith, f.reads_left, g.reads_left);
       }
 
   ends_later : (over : Ended) (a b c : Reading R) → GoesOnReading gives a b → EndsBy gives over b c
@@ -267,7 +273,7 @@ module _ {R : Type 0} (gives : R → List ℕ → Got → R → Type 0) (left : 
   -- a final answer changes nothing else
   goes_ended : {a : Reading R} (b : Reading R) (e : Option Ended) → GoesOnReading gives a b
       → GoesOnReading gives a (record b { ended = e })
-  goes_ended b e f = record { count = f.count; reads = f.reads; turns = f.turns }
+  goes_ended b e f = record { count = f.count; reads = f.reads; reads_left = f.reads_left }
 
   last_ended : {a : Reading R} {got : Got} (b : Reading R) (e : Option Ended) → LastRead gives a got b
       → LastRead gives a got (record b { ended = e })
@@ -278,7 +284,7 @@ module _ {R : Type 0} (gives : R → List ℕ → Got → R → Type 0) (left : 
         buffer = f.buffer;
         reads = f.reads;
         last = f.last;
-        turns = f.turns;
+        reads_left = f.reads_left;
       }
 
   by_ended : (over : Ended) (a b : Reading R) (e : Option Ended) → EndsBy gives over a b
@@ -323,30 +329,31 @@ pub read_whole : (bs buffer rest : List ℕ) (room : ℕ) → bs ≡ take room (
     → bs ≡ buffer
 read_whole bs buffer rest room is long = is ∙ take_at buffer rest room long
 
-pub cut_held : (held : List ℕ) → false ≡ (length held == 0) → NeedsMore held → IsCut held
-cut_held [] some more = cc
-cut_held (b ∷ bs) some (inl none) = cc
-cut_held (b ∷ bs) some (inr cut) = cut
+pub cut_buffered : (buffered : List ℕ) → false ≡ (length buffered == 0) → NeedsMore buffered → IsCut buffered
+cut_buffered [] some more = cc
+cut_buffered (b ∷ bs) some (inl none) = cc
+cut_buffered (b ∷ bs) some (inr cut) = cut
 
 -- the payload of the record in front
-payload_at : (held name : List ℕ) (size start : ℕ) (whole : BeginsWhole held name size) → start ≡ 3 + length name
-    → take (start + size - start) (drop start held) ≡ whole.payload
-payload_at held name size start whole start_is =
+payload_at : (buffered name : List ℕ) (size start : ℕ) (whole : BeginsWhole buffered name size)
+    → start ≡ 3 + length name
+    → take (start + size - start) (drop start buffered) ≡ whole.payload
+payload_at buffered name size start whole start_is =
     let front = (length name ∷ name) ++ two_bytes (length whole.payload) in
     let long : length front ≡ start =
     omega (arith, start_is, length-append (length name ∷ name) (two_bytes (length whole.payload))) in
-    let bytes : drop start held ≡ whole.payload ++ whole.rest =
+    let bytes : drop start buffered ≡ whole.payload ++ whole.rest =
     ap (λ t. drop start t) (whole.bytes ∙ append_assoc front whole.payload whole.rest)
     ∙ drop_at front (whole.payload ++ whole.rest) start long in
     let size_same : start + size - start ≡ size = omega arith in
     rw size_same (ap (λ t. take size t) bytes ∙ take_at whole.payload whole.rest size whole.size_is)
 
 -- a payload that is not made, though it has a length that payloads have, is longer than 16 bytes
-pub takes_for_payload : (held name : List ℕ) (turns size start : ℕ) → BeginsWhole held name size
-    → start ≡ 3 + length name → (payload : List ℕ) → payload ≡ take (start + size - start) (drop start held)
-    → (payload_refusal payload ≡ None → length payload ≤ 16 → false ≡ true) → TakesMemory held turns
-takes_for_payload held name turns size start whole start_is payload payload_is lacks =
-    let same : payload ≡ whole.payload = payload_is ∙ payload_at held name size start whole start_is in
+pub takes_for_payload : (buffered name : List ℕ) (reads_left size start : ℕ) → BeginsWhole buffered name size
+    → start ≡ 3 + length name → (payload : List ℕ) → payload ≡ take (start + size - start) (drop start buffered)
+    → (payload_refusal payload ≡ None → length payload ≤ 16 → false ≡ true) → TakesMemory buffered reads_left
+takes_for_payload buffered name reads_left size start whole start_is payload payload_is lacks =
+    let same : payload ≡ whole.payload = payload_is ∙ payload_at buffered name size start whole start_is in
     let count : length payload ≡ size = ap length same ∙ whole.size_is in
     let fits : payload_refusal payload ≡ None = rw (same, whole.item.payload) refl in
     let long : length payload ≤ 16 → ⊥ = (λ few. let no : false ≡ true = lacks fits few in cc) in
@@ -354,25 +361,26 @@ takes_for_payload held name turns size start whole start_is payload payload_is l
 
 module _ {R : Type 0} (gives : R → List ℕ → Got → R → Type 0) (left : R → Option (List ℕ)) where
   -- the record in front was given
-  pub given_whole : (reader : R) (held name : List ℕ) (turns size start : ℕ) (ended : Option Ended)
-      → BeginsWhole held name size → ended ≡ None → start ≡ 3 + length name → (parcel : List ℕ)
-      → parcel ≡ take (start + size - start) (drop start held) → (rest : List ℕ) → rest ≡ drop (start + size) held
-      → TakesItem gives left (record { reader = reader; held = held; turns = turns; ended = ended })
+  pub given_whole : (reader : R) (buffered name : List ℕ) (reads_left size start : ℕ) (ended : Option Ended)
+      → BeginsWhole buffered name size → ended ≡ None → start ≡ 3 + length name → (parcel : List ℕ)
+      → parcel ≡ take (start + size - start) (drop start buffered) → (rest : List ℕ)
+      → rest ≡ drop (start + size) buffered
+      → TakesItem gives left (record { reader = reader; buffered = buffered; reads_left = reads_left; ended = ended })
       (record { name = name; payload = parcel })
-      (record { reader = reader; held = rest; turns = turns; ended = ended })
-  given_whole reader held name turns size start ended whole still start_is parcel parcel_is rest rest_is =
+      (record { reader = reader; buffered = rest; reads_left = reads_left; ended = ended })
+  given_whole reader buffered name reads_left size start ended whole still start_is parcel parcel_is rest rest_is =
       let item : Item = record { name = name; payload = whole.payload } in
       let front = (length name ∷ name) ++ two_bytes (length whole.payload) in
       let long : length front ≡ start =
       omega (arith, start_is, length-append (length name ∷ name) (two_bytes (length whole.payload))) in
       let all : length (record_of item) ≡ start + size =
       omega (arith, long, whole.size_is, length-append front whole.payload) in
-      let payload : parcel ≡ whole.payload = parcel_is ∙ payload_at held name size start whole start_is in
+      let payload : parcel ≡ whole.payload = parcel_is ∙ payload_at buffered name size start whole start_is in
       let after : rest ≡ whole.rest =
       rest_is ∙ ap (λ t. drop (start + size) t) whole.bytes ∙ drop_at (record_of item) whole.rest (start + size) all in
       record {
-        calls = record { count = 0; reads = no_reads; turns = omega arith };
+        calls = record { count = 0; reads = no_reads; reads_left = omega arith };
         good = rw payload whole.item;
-        taken = rw (payload, after) (consumes_front held (record_of item) whole.rest (left reader) whole.bytes);
+        taken = rw (payload, after) (consumes_front buffered (record_of item) whole.rest (left reader) whole.bytes);
         open_still = still;
       }

@@ -101,10 +101,10 @@ stopped_told (Some xs) (Some ys) None items i all f g = absurd g
 stopped_told (Some xs) (Some ys) (Some zs) items i all f g =
     (i, zs, record { good = all; bytes = consumes_more (Some xs) (Some ys) (Some zs) items i f g })
 
-at_end_known : (held : List ℕ) (a : Option (List ℕ)) (P : List ℕ → Type 0) → IsAtEnd a → P held
-    → IfSome (prepend_known held a) P
-at_end_known held None P end h = tt
-at_end_known held (Some xs) P end h = subst P (sym (append-nil held) ∙ ap (λ t. held ++ t) (sym end)) h
+at_end_known : (buffered : List ℕ) (a : Option (List ℕ)) (P : List ℕ → Type 0) → IsAtEnd a → P buffered
+    → IfSome (prepend_known buffered a) P
+at_end_known buffered None P end h = tt
+at_end_known buffered (Some xs) P end h = subst P (sym (append-nil buffered) ∙ ap (λ t. buffered ++ t) (sym end)) h
 
 -- A worker at work
 
@@ -156,10 +156,10 @@ module _ {R : Type 0} (gives : R → List ℕ → Got → R → Type 0) (left : 
       → Gives (left before) buffer got (left after)) → (over : Ended) (r : Reading R) → EndStands gives r over
       → IfSome (left_of left r) (EndsAs over)
   stands_told tells End r h = let gave = h.1 in
-      at_end_known r.held (left r.reader) (λ bs. bs ≡ []) (tells gave.0 gave.1 _ r.reader gave.2).1 h.0
+      at_end_known r.buffered (left r.reader) (λ bs. bs ≡ []) (tells gave.0 gave.1 _ r.reader gave.2).1 h.0
   stands_told tells Cut r h = let gave = h.1 in
-      at_end_known r.held (left r.reader) (λ bs. IsCut bs) (tells gave.0 gave.1 _ r.reader gave.2).1 h.0
-  stands_told tells BadRecord r h = bad_known r.held (left r.reader) h
+      at_end_known r.buffered (left r.reader) (λ bs. IsCut bs) (tells gave.0 gave.1 _ r.reader gave.2).1 h.0
+  stands_told tells BadRecord r h = bad_known r.buffered (left r.reader) h
   stands_told tells Fault r h = any_known _
   stands_told tells NoMemory r h = any_known _
   stands_told tells Bound r h = any_known _
@@ -182,7 +182,7 @@ module _ {R : Type 0} (gives : R → List ℕ → Got → R → Type 0) (left : 
 
   module _ (first now new after_it : Reading R) (before after done : EndView) (item : Item)
       (f : Working left first now before after) (takes : TakesItem gives left now item new)
-      (turned : after_it ≡ record new { turns = after_it.turns }) where
+      (turned : after_it ≡ record new { reads_left = after_it.reads_left }) where
     taken_after : Consumes (left_of left now) (left_of left after_it) (record_of item)
     taken_after = subst (λ (r : Reading R). Consumes (left_of left now) (left_of left r) (record_of item)) (sym
         turned) takes.taken
@@ -205,26 +205,26 @@ module _ {R : Type 0} (gives : R → List ℕ → Got → R → Type 0) (left : 
           taken = consumes_more _ _ _ f.items item f.taken taken_after;
         }
 
-    pub worked_dropped : (why : Why) (again : Bool) (turns tally : ℕ)
-        → done ≡ record after { refused = done.refused } → MayDrop why again turns
+    pub worked_dropped : (why : Why) (again : Bool) (reads_left tally : ℕ)
+        → done ≡ record after { refused = done.refused } → MayDrop why again reads_left
         → tally ≡ length after.pushed - length before.pushed → Worked (left_of left first) before done tally why
-    worked_dropped (Over End) again turns tally same dropped counted = absurd dropped
-    worked_dropped (Over Cut) again turns tally same dropped counted = absurd dropped
-    worked_dropped (Over BadRecord) again turns tally same dropped counted = absurd dropped
-    worked_dropped (Over Fault) again turns tally same dropped counted = absurd dropped
-    worked_dropped (Over NoMemory) again turns tally same dropped counted = absurd dropped
-    worked_dropped (Over Bound) again turns tally same dropped counted =
+    worked_dropped (Over End) again reads_left tally same dropped counted = absurd dropped
+    worked_dropped (Over Cut) again reads_left tally same dropped counted = absurd dropped
+    worked_dropped (Over BadRecord) again reads_left tally same dropped counted = absurd dropped
+    worked_dropped (Over Fault) again reads_left tally same dropped counted = absurd dropped
+    worked_dropped (Over NoMemory) again reads_left tally same dropped counted = absurd dropped
+    worked_dropped (Over Bound) again reads_left tally same dropped counted =
         record {
           items = f.items;
           counted = omega (arith, f.long, counted);
           queued = same ∙ ap (λ (e : EndView). record e { refused = done.refused }) f.queued;
           told = bound_told _ _ f.items f.good f.taken;
         }
-    worked_dropped Stopped again turns tally same dropped counted =
+    worked_dropped Stopped again reads_left tally same dropped counted =
         record {
           items = f.items;
           counted = omega (arith, f.long, counted);
           queued = same ∙ ap (λ (e : EndView). record e { refused = done.refused }) f.queued;
           told = stopped_told _ _ _ f.items item (each_last f.items item f.good takes.good) f.taken takes.taken;
         }
-    worked_dropped NotStarted again turns tally same dropped counted = absurd dropped
+    worked_dropped NotStarted again reads_left tally same dropped counted = absurd dropped

@@ -32,12 +32,12 @@ pub data Again {G : Type 0} (told : G → GateCall → G → Type 0) (e : EndVie
 abbrev pub CountsRefusals : EndView → ℕ → ℕ → Type 0
 CountsRefusals e rounds refused = (length e.pushed ≡ 2 ^ 40) ⊎ (refused ≡ raises e.refused rounds)
 
--- the same, and each time used up one of these turns, and was counted by the end
-pub record Waits {G : Type 0} (told : G → GateCall → G → Type 0) (e : EndView) (turns : ℕ) (first : G) (left : ℕ)
+-- the same, and each time used up one of these reads, and was counted by the end
+pub record Waits {G : Type 0} (told : G → GateCall → G → Type 0) (e : EndView) (reads_left : ℕ) (first : G) (left : ℕ)
     (refused : ℕ) (last : G) : Type 0 where
   pub rounds : ℕ
   pub again : Again told e first rounds last
-  pub spent : rounds + left ≡ turns
+  pub spent : rounds + left ≡ reads_left
   pub came_back : CountsRefusals e rounds refused
 
 -- the gate stopped the worker; or the item was to be offered again, and no turn was left
@@ -51,12 +51,12 @@ MayDrop (Over Bound) again left = (again ≡ true) × (left ≡ 0)
 MayDrop Stopped again left = again ≡ false
 MayDrop NotStarted again left = ⊥
 
--- an item was offered again for some of these turns, and dropped when the queue was full once more
-pub record Drops {G : Type 0} (told : G → GateCall → G → Type 0) (e : EndView) (turns : ℕ) (first : G) (left : ℕ)
+-- an item was offered again for some of these reads, and dropped when the queue was full once more
+pub record Drops {G : Type 0} (told : G → GateCall → G → Type 0) (e : EndView) (reads_left : ℕ) (first : G) (left : ℕ)
     (refused : ℕ) (why : Why) (last : G) : Type 0 where
   pub asked : G
   pub earlier : ℕ
-  pub waits : Waits told e turns first left earlier asked
+  pub waits : Waits told e reads_left first left earlier asked
   pub full : WasFull e
   pub came_back : CountsRefusals e (waits.rounds + 1) refused
   pub again : Bool
@@ -81,7 +81,7 @@ pub record Spends {R : Type 0} (gives : R → List ℕ → Got → R → Type 0)
     : Type 0 where
   pub count : ℕ
   pub reads : Reads gives old.reader count new.reader
-  pub turns : count + rounds + new.turns ≡ old.turns
+  pub reads_left : count + rounds + new.reads_left ≡ old.reads_left
 
 -- the reader ended so by its next reads, or had ended so already, and then read no more
 abbrev pub EndsNow : {R : Type 0} → (R → List ℕ → Got → R → Type 0) → Reading R → Ended → Reading R → Type 0
@@ -95,9 +95,9 @@ module _ {R G : Type 0} (gives : R → List ℕ → Got → R → Type 0) (told 
       (left : Reading R) : Type 0 where
     pub asked : G
     pub next : told first (item_next n) asked
-    pub dropped : Drops told e now.turns asked left.turns end.refused why last
+    pub dropped : Drops told e now.reads_left asked left.reads_left end.refused why last
     pub same : end ≡ record e { refused = end.refused }
-    pub unread : left ≡ record now { turns = left.turns }
+    pub unread : left ≡ record now { reads_left = left.reads_left }
 
   -- after the items that were queued the reader ended, and the gate got no more calls; or one more item was dropped
   abbrev pub Finishes : ℕ → EndView → Reading R → G → Why → EndView → G → Reading R → Type 0
@@ -108,7 +108,7 @@ module _ {R G : Type 0} (gives : R → List ℕ → Got → R → Type 0) (told 
   Finishes n e now first NotStarted end last left = ⊥
 
   -- a worker queued `tally` items, stopped for this reason and left its reader so. Then come the calls of its reader
-  -- and of its gate, and the turns that were used up
+  -- and of its gate, and the reads that were used up
   pub record WorkerRan (reader : Reading R) (start : EndView) (gate : G) (tally : ℕ) (why : Why) (end : EndView)
       (last : G)
       (left : Reading R) : Type 0 where

@@ -15,34 +15,35 @@ use Rattle.share_ingress.specs.declared.reader.Next.TheVariants.{Item as Found, 
 -- the reader below, the bytes read and not given yet, the reads that it may still make, and its end, if it has one
 pub record Reading (R : Type 0) : Type 0 where
   pub reader : R
-  pub held : List ℕ
-  pub turns : ℕ
+  pub buffered : List ℕ
+  pub reads_left : ℕ
   pub ended : Option Ended
 
 -- the bytes of the stream that are left, if the reader below gives its own
 abbrev pub left_of : {R : Type 0} → (R → Option (List ℕ)) → Reading R → Option (List ℕ)
-left_of left r = prepend_known r.held (left r.reader)
+left_of left r = prepend_known r.buffered (left r.reader)
 
--- the end of a stream that has nothing more to read while these bytes are held
+-- the end of a stream that has nothing more to read while these bytes are buffered
 abbrev pub EndsInput : List ℕ → Ended → Type 0
-EndsInput held End = held ≡ []
-EndsInput held Cut = IsCut held
-EndsInput held BadRecord = ⊥
-EndsInput held Fault = ⊥
-EndsInput held NoMemory = ⊥
-EndsInput held Bound = ⊥
+EndsInput buffered End = buffered ≡ []
+EndsInput buffered Cut = IsCut buffered
+EndsInput buffered BadRecord = ⊥
+EndsInput buffered Fault = ⊥
+EndsInput buffered NoMemory = ⊥
+EndsInput buffered Bound = ⊥
 
 -- memory is asked for: for the payload of a record in front, which is longer than 16 bytes, or for room to read more
 abbrev pub TakesMemory : List ℕ → ℕ → Type 0
-TakesMemory held turns =
-    ((name : List ℕ) × (size : ℕ) × (17 ≤ size) × BeginsWhole held name size) ⊎ ((1 ≤ turns) × NeedsMore held)
+TakesMemory buffered reads_left =
+    ((name : List ℕ) × (size : ℕ) × (17 ≤ size) × BeginsWhole buffered name size)
+    ⊎ ((1 ≤ reads_left) × NeedsMore buffered)
 
 module _ {R : Type 0} (gives : R → List ℕ → Got → R → Type 0) where
   -- reads that gave bytes or were interrupted, each of which used up a turn
   pub record GoesOnReading (old new : Reading R) : Type 0 where
     pub count : ℕ
     pub reads : Reads gives old.reader count new.reader
-    pub turns : count + new.turns ≡ old.turns
+    pub reads_left : count + new.reads_left ≡ old.reads_left
 
   -- after such reads, a last one with this answer
   pub record LastRead (old : Reading R) (got : Got) (new : Reading R) : Type 0 where
@@ -51,7 +52,7 @@ module _ {R : Type 0} (gives : R → List ℕ → Got → R → Type 0) where
     pub buffer : List ℕ
     pub reads : Reads gives old.reader count before
     pub last : gives before buffer got new.reader
-    pub turns : count + 1 + new.turns ≡ old.turns
+    pub reads_left : count + 1 + new.reads_left ≡ old.reads_left
 
   -- the reads of a call that ended so
   abbrev pub EndsBy : Ended → Reading R → Reading R → Type 0
@@ -69,12 +70,12 @@ module _ {R : Type 0} (gives : R → List ℕ → Got → R → Type 0) where
   -- why it ended so, in this call or an earlier one. The last read found the end, or failed; memory was asked for; or
   -- no turn was left
   abbrev pub EndStands : Reading R → Ended → Type 0
-  EndStands r End = (r.held ≡ []) × Gave EndOfInput r.reader
-  EndStands r Cut = IsCut r.held × Gave EndOfInput r.reader
-  EndStands r BadRecord = IsBad r.held
+  EndStands r End = (r.buffered ≡ []) × Gave EndOfInput r.reader
+  EndStands r Cut = IsCut r.buffered × Gave EndOfInput r.reader
+  EndStands r BadRecord = IsBad r.buffered
   EndStands r Fault = Gave Failed r.reader
-  EndStands r NoMemory = TakesMemory r.held r.turns
-  EndStands r Bound = (r.turns ≡ 0) × NeedsMore r.held
+  EndStands r NoMemory = TakesMemory r.buffered r.reads_left
+  EndStands r Bound = (r.reads_left ≡ 0) × NeedsMore r.buffered
 
   module _ (left : R → Option (List ℕ)) where
     -- more was read, and nothing given

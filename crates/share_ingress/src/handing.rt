@@ -6,22 +6,22 @@ use std::sync::{Mutex, Wait};
 use std::thread;
 
 /// The facts that the thread that takes an item knows of it. The thread that hands it over chooses this.
-pub(crate) trait Known<X> {
+pub(crate) trait Fact<X> {
     ghost is: { X → Type 0 };
 }
 
-impl<X> Known<X> for Brand {
+impl<X> Fact<X> for Brand {
     ghost is = { λ _. ⊤ };
 }
 
 /// An item of which `K` is known.
 #[derive(Drop)]
-pub(crate) struct Handed<X, K: Known<X>> {
+pub(crate) struct Handed<X, K: Fact<X>> {
     item: X,
     of: PhantomData<K>,
 }
 
-impl<X, K: Known<X>> Model for Handed<X, K> {
+impl<X, K: Fact<X>> Model for Handed<X, K> {
     ghost Value = { X };
 
     ghost view = { λ h. h.item };
@@ -33,7 +33,7 @@ impl<X, K: Known<X>> Model for Handed<X, K> {
 pub(crate) type Inbox<X, K> = Mutex<Option<Handed<X, K>>>;
 
 /// Puts an item.
-pub(crate) fn put<T: Wait, X: Drop, K: Known<X>>(rt: &T, inbox: &Inbox<X, K>, item: X)
+pub(crate) fn put<T: Wait, X: Drop, K: Fact<X>>(rt: &T, inbox: &Inbox<X, K>, item: X)
     requires { K.is item }
 {
     *inbox.lock(rt) = Some(Handed {
@@ -43,7 +43,7 @@ pub(crate) fn put<T: Wait, X: Drop, K: Known<X>>(rt: &T, inbox: &Inbox<X, K>, it
 }
 
 /// Takes the item once there is one.
-pub(crate) fn take<T: Wait, X: Drop, K: Known<X>>(rt: &T, inbox: &Inbox<X, K>) -> X
+pub(crate) fn take<T: Wait, X: Drop, K: Fact<X>>(rt: &T, inbox: &Inbox<X, K>) -> X
     ensures { K.is result }
 {
     for _ in rt.forever() {

@@ -37,10 +37,10 @@ pub struct IngressReader<R: TellingReader> {
     alloc: Global,
     reader: R,
     // The bytes that were read and not given yet.
-    held: BytesMut,
+    buffered: BytesMut,
     // The buffer of one read.
     chunk: Vec<u8>,
-    turns: u64,
+    reads_left: u64,
     ended: Option<Ended>,
 }
 
@@ -50,28 +50,30 @@ impl<R: TellingReader> Model for IngressReader<R> {
 
     ghost Value = { Reading R };
 
-    ghost view = { λ r. record { reader = r.reader; held = r.held.items; turns = r.turns; ended = r.ended } };
+    ghost view = { λ r.
+        record { reader = r.reader; buffered = r.buffered.items; reads_left = r.reads_left; ended = r.ended } };
 
     ghost invariant = { λ r. (length r.chunk.items ≡ 65536)
         × IfSome r.ended (EndStands R.gives
-        (record { reader = r.reader; held = r.held.items; turns = r.turns; ended = r.ended })) };
+        (record { reader = r.reader; buffered = r.buffered.items; reads_left = r.reads_left; ended = r.ended })) };
 }
 
 impl<R: TellingReader + Drop> IngressReader<R> {
     /// A reader that makes at most this many read calls. `NoMemory` if memory for its buffers is refused; then the
     /// reader is dropped.
     pub fn new(alloc: Global, reader: R, bound: u64) -> Result<IngressReader<R>, Refusal>
-        ensures ok { IfOk result (λ r. r ≡ record { reader = reader; held = []; turns = bound; ended = None }) }
+        ensures ok { IfOk result
+            (λ r. r ≡ record { reader = reader; buffered = []; reads_left = bound; ended = None }) }
         ensures refused { IfErr result (IsRefused None) }
     {
-        let held = BytesMut::with_capacity(alloc, CHUNK + CARRIED)?;
+        let buffered = BytesMut::with_capacity(alloc, CHUNK + CARRIED)?;
         let chunk = vec![in alloc; 0u8; CHUNK]?;
         Ok(IngressReader {
             alloc,
             reader,
-            held,
+            buffered,
             chunk,
-            turns: bound,
+            reads_left: bound,
             ended: None,
         })
     }
@@ -100,13 +102,13 @@ impl<R: TellingReader> IngressReader<R> {
     /// Uses up one of the reads that are left without reading. Returns false if none is left.
     pub(crate) fn turn(&mut self) -> bool
         requires { self.old.ended ≡ None }
-        ensures { MatchBool result ((self.new ≡ record self.old { turns = self.new.turns })
-            × (self.new.turns + 1 ≡ self.old.turns)) ((self.new ≡ self.old) × (self.old.turns ≡ 0)) }
+        ensures { MatchBool result ((self.new ≡ record self.old { reads_left = self.new.reads_left })
+            × (self.new.reads_left + 1 ≡ self.old.reads_left)) ((self.new ≡ self.old) × (self.old.reads_left ≡ 0)) }
     {
-        if self.turns == 0 {
+        if self.reads_left == 0 {
             return false;
         }
-        self.turns -= 1;
+        self.reads_left -= 1;
         true
     }
 
@@ -116,7 +118,7 @@ impl<R: TellingReader> IngressReader<R> {
         ensures { Answers R.gives R.left self.old result self.new }
     {
         'record: loop {
-            match first_record(self.held.as_slice()) {
+            match first_record(self.buffered.as_slice()) {
                 Found::Whole(name, size) => return self.give(name, size),
                 Found::Bad => return self.end(Ended::BadRecord),
                 Found::Part => (),
@@ -130,14 +132,14 @@ impl<R: TellingReader> IngressReader<R> {
     // Gives the item of the record in front.
     fn give(&mut self, name: Name, size: usize) -> Next
         requires still { self.old.ended ≡ None }
-        requires whole { BeginsWhole self.old.held name size }
+        requires whole { BeginsWhole self.old.buffered name size }
         ensures { Answers R.gives R.left self.old result self.new }
     {
         let start = FRAMING + name.as_bytes().len();
-        match Parcel::new(self.alloc, &self.held.as_slice()[start..start + size]) {
+        match Parcel::new(self.alloc, &self.buffered.as_slice()[start..start + size]) {
             Err(_) => self.end(Ended::NoMemory),
             Ok(parcel) => {
-                self.held.advance(start + size);
+                self.buffered.advance(start + size);
                 Next::Item { name, parcel }
             }
         }
@@ -156,37 +158,37 @@ impl<R: TellingReader> IngressReader<R> {
     // Makes one read.
     fn read(&mut self) -> Result<(), Ended>
         requires still { self.old.ended ≡ None }
-        requires more { NeedsMore self.old.held }
+        requires more { NeedsMore self.old.buffered }
         ensures still { self.new.ended ≡ None }
         ensures read { MatchResult result (λ _. ReadsOn R.gives R.left self.old self.new)
             (λ ended. Stops R.gives R.left self.old ended self.new) }
-        ensures turn { IfOk result (λ _. self.new.turns < self.old.turns) }
+        ensures turn { IfOk result (λ _. self.new.reads_left < self.old.reads_left) }
     {
-        if self.turns == 0 {
+        if self.reads_left == 0 {
             return Err(Ended::Bound);
         }
-        if self.held.reserve(CHUNK).is_err() {
+        if self.buffered.reserve(CHUNK).is_err() {
             return Err(Ended::NoMemory);
         }
-        self.turns -= 1;
+        self.reads_left -= 1;
         match self.reader.take_bytes(self.chunk.as_mut_slice()) {
             Got::Bytes(count) => {
-                self.held.extend_reserved(&self.chunk[..count]);
+                self.buffered.extend_reserved(&self.chunk[..count]);
                 Ok(())
             }
             Got::Interrupted => Ok(()),
-            Got::End => Err(end_of_input(self.held.as_slice())),
+            Got::End => Err(end_of_input(self.buffered.as_slice())),
             Got::Failed => Err(Ended::Fault),
         }
     }
 }
 
-// The end of a stream that has nothing more to read while these bytes are held.
-fn end_of_input(held: &[u8]) -> Ended
-    requires { NeedsMore held.now }
-    ensures { EndsInput held.now result }
+// The end of a stream that has nothing more to read while these bytes are buffered.
+fn end_of_input(buffered: &[u8]) -> Ended
+    requires { NeedsMore buffered.now }
+    ensures { EndsInput buffered.now result }
 {
-    if held.is_empty() {
+    if buffered.is_empty() {
         Ended::End
     } else {
         Ended::Cut

@@ -6,7 +6,7 @@ ghost use Rattle.share_ingress.specs.Threads.{IsDoneOfOne, IsJobDone, IsNotStart
 
 use crate::ends::IngressEnd;
 use crate::handing;
-use crate::handing::{Inbox, Known};
+use crate::handing::{Fact, Inbox};
 use crate::reader::IngressReader;
 use crate::workers::{Done, Gate, Why, run_worker};
 use share_model::TellingReader;
@@ -135,7 +135,7 @@ where
     T: Threads + Wait + Sync,
     R: TellingReader + Send + Drop + 's,
     G: Gate + Send + Drop + 's,
-    K: Known<Job<R, G>> + Send + 's,
+    K: Fact<Job<R, G>> + Send + 's,
     requires { IsOnly K.is job }
     ensures { MatchResult result (λ handle. handle.promise.0.value ≡ job) (IsNotStarted job) }
 {
@@ -161,7 +161,7 @@ where
     T: Wait,
     R: TellingReader + Drop,
     G: Gate + Drop,
-    K: Known<Job<R, G>>,
+    K: Fact<Job<R, G>>,
     ensures { IsDoneOfOne K.is R.gives R.left G.told result }
 {
     let job = handing::take::<T, Job<R, G>, K>(rt, inbox);

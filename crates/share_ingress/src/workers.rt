@@ -135,9 +135,10 @@ fn put<T: Wait, R: TellingReader, G: Gate>(
         (λ _. end.new ≡ record (with_offer end.old name parcel) { refused = end.new.refused })
         (λ _. end.new ≡ record end.old { refused = end.new.refused }) }
     ensures gate { MatchResult result
-        (λ _. Waits G.told end.old reader.old.turns gate.old reader.new.turns end.new.refused gate.new)
-        (λ why. Drops G.told end.old reader.old.turns gate.old reader.new.turns end.new.refused why gate.new) }
-    ensures reader { reader.new ≡ record reader.old { turns = reader.new.turns } }
+        (λ _. Waits G.told end.old reader.old.reads_left gate.old reader.new.reads_left end.new.refused gate.new)
+        (λ why. Drops G.told end.old reader.old.reads_left gate.old reader.new.reads_left end.new.refused why
+        gate.new) }
+    ensures reader { reader.new ≡ record reader.old { reads_left = reader.new.reads_left } }
 {
     let mut parcel = parcel;
     for _ in rt.forever() {

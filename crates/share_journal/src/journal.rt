@@ -68,7 +68,7 @@ impl Journal {
         })
     }
 
-    /// How many entries it has room for.
+    /// The number of entries that it has room for.
     pub fn life(&self) -> u64
         ensures { result ≡ self.now.life }
     {

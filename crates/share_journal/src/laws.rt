@@ -3,8 +3,8 @@
 ghost use Rattle.std.specs.Prelude.{◌≡◌, ◌≤◌, ◌++◌, ◌∷◌, [], ℕ, Bool, List};
 ghost use Rattle.share_model.specs.text.Audit.{IsAmple};
 ghost use Rattle.share_model.specs.text.Talk.{start_of_script, talk, FoundMemory};
-ghost use Rattle.share_model.specs.Headline.{Headline};
-ghost use Rattle.share_model.specs.link.Places.{SharesAreKept};
+ghost use Rattle.share_model.specs.Promise.{Promise};
+ghost use Rattle.share_model.specs.link.Gains.{GainsAreWithinShares};
 ghost use Rattle.share_model.specs.link.Readings.{TicketsAreWithin, TicketsAreUncapped};
 ghost use Rattle.share_base.specs.declared.command.Command.{Command};
 ghost use Rattle.share_base.specs.declared.command.Reply.{Reply};
@@ -23,7 +23,7 @@ use share_model::{Rates, TellingWriter};
 /// writer's first fault. The replies, the accounts and the bytes are those of one plain fold. Each next frame of the
 /// fold carries the head packet of the flow with the least pass, on tickets computed from scratch.
 pub fn recorders_are_one_fold<W: TellingWriter, S: Rates>(recorder: &Recorder<W, S>)
-    ensures { Headline recorder.now.link.live.version recorder.now.link.life recorder.now.link.rates
+    ensures { Promise recorder.now.link.live.version recorder.now.link.life recorder.now.link.rates
         (events_in recorder.now.entries) (replies_of recorder.now.entries) recorder.now.link.live
         (W.told recorder.now.link.writer) }
 {
@@ -72,7 +72,7 @@ pub fn arrivals_are_numbered()
 /// The answers of `Engine::tickets` for the open flows sum up to at most the active amount of `base`. While at most
 /// 2^20 of `base` is issued, each is the worth of the tickets that fund the flow.
 pub fn shares_of_recorders<W: TellingWriter, S: Rates>(recorder: &Recorder<W, S>)
-    ensures calls { SharesAreKept W.answers recorder.now.link }
+    ensures calls { GainsAreWithinShares W.answers recorder.now.link }
     ensures within { TicketsAreWithin recorder.now.link }
     ensures uncapped { TicketsAreUncapped recorder.now.link }
 {

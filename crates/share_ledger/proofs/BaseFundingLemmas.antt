@@ -10,10 +10,10 @@ use Rattle.share_model.specs.funding.Changes.{is_open_as, active_as, with_activi
 use Rattle.share_model.specs.lists.Change.{change_first}
 use Rattle.share_model.specs.lists.Each.{Each}
 use Rattle.share_model.proofs.lemmas.lists.SumLemmas.{sum_by-same_of}
-use Rattle.share_ledger.specs.declared.net.Net.{Net}
+use Rattle.share_ledger.specs.declared.valuation.Valuation.{Valuation}
 use Rattle.share_ledger.specs.declared.routes.Route.{Route}
 use Rattle.share_ledger.specs.declared.funding_tickets.FundingTicket.{FundingTicket}
-use Rattle.share_ledger.specs.Nets.{IsReady}
+use Rattle.share_ledger.specs.Valuations.{IsReady}
 use Rattle.share_ledger.specs.FundingTickets.{IsFundingTicketWithin, funding_ticket_worth, funding_tickets_at}
 use Rattle.share_ledger.specs.FundingTickets.{amount_from, worth_at}
 use Rattle.share_ledger.proofs.FirstItemLemmas.{IsFirstAt}
@@ -76,7 +76,7 @@ activity-turned f a (x ∷ es) (suc i) (suc k) first =
     both n m = grind (arith, nat_tests)
 
 -- the same funding tickets and numbers under activity that is the same
-pub relit : (n : Net) (tickets_of_all : List ℕ) (backs funds : List Route) (lit other : ℕ → Bool)
+pub relit : (n : Valuation) (tickets_of_all : List ℕ) (backs funds : List Route) (lit other : ℕ → Bool)
     → IsReady n tickets_of_all backs funds lit → ((k : ℕ) → lit k ≡ other k)
     → IsReady n tickets_of_all backs funds other
 relit n tickets_of_all backs funds lit other ready same = record {

@@ -9,17 +9,17 @@ use Rattle.share_model.specs.declared.funding.Holder.TheVariants.{Nobody, Curren
 use Rattle.share_model.specs.declared.funding.OpenFlow.{OpenFlow}
 use Rattle.share_model.specs.declared.funding.Ticket.{Ticket}
 use Rattle.share_model.specs.funding.Changes.{is_open_as, release_from, remove_flow}
-use Rattle.share_model.proofs.lemmas.funding.FlowLemmas.{kept-remove_flow}
-use Rattle.share_model.specs.funding.Graph.{NameBytes, Graph, is_held_by_flow}
-use Rattle.share_model.specs.funding.Kept.{IsKept}
+use Rattle.share_model.proofs.lemmas.funding.FlowLemmas.{well_formed-remove_flow}
+use Rattle.share_model.specs.funding.Graph.{NameBytes, Graph, holder_is_flow}
+use Rattle.share_model.specs.funding.WellFormed.{IsWellFormed}
 use Rattle.share_model.specs.lists.Each.{Each}
 use Rattle.share_ledger.specs.Arrays.{flags_of}
 use Rattle.share_ledger.specs.Bounds.{AreIdle}
-use Rattle.share_ledger.specs.Nets.{activity_of, IsReady}
+use Rattle.share_ledger.specs.Valuations.{activity_of, IsReady}
 use Rattle.share_ledger.specs.Routes.{flow_place, holder_place, is_kind, routes_of}
 use Rattle.share_ledger.specs.FundingTickets.{funding_tickets_at, AreTicketed, backs_of, funds_of}
 use Rattle.share_ledger.specs.Cache.{IsCurrent}
-use Rattle.share_ledger.specs.declared.net.Net.{Net}
+use Rattle.share_ledger.specs.declared.valuation.Valuation.{Valuation}
 use Rattle.share_ledger.specs.declared.funding_tickets.FundingTicket.{FundingTicket}
 use Rattle.share_ledger.proofs.BaseFundingLemmas.{relit}
 use Rattle.share_ledger.proofs.FundingFillLemmas.{activity-beyond}
@@ -54,7 +54,7 @@ activity-left f (e ∷ es) (suc i) first idle (suc k) =
     activity-left f es i first.1 (λ j le. idle (suc j) (omega arith)) k
     ∙ sym (ap (λ b. at (cond b es (e ∷ remove_key (is_open_as f) es)) (suc k)) first.0)
 
-module _ (g : Graph) (ok : IsKept g) (f i : ℕ) (first : IsFirstAt (is_open_as f) g.flows i)
+module _ (g : Graph) (ok : IsWellFormed g) (f i : ℕ) (first : IsFirstAt (is_open_as f) g.flows i)
     (fs : List (List FundingTicket))
     (funds : AreTicketed (funds_of g) fs) (empty : (p : ℕ) → i ≤ p → p < 65 → length (funding_tickets_at fs p) ≡ 0)
   where
@@ -91,7 +91,7 @@ module _ (g : Graph) (ok : IsKept g) (f i : ℕ) (first : IsFirstAt (is_open_as 
       early ts known.1 none.1,
     )
 
-    other : (h : Holder) → (is_kind false h ≡ true → holder_place g h < i) → is_held_by_flow f h ≡ false
+    other : (h : Holder) → (is_kind false h ≡ true → holder_place g h < i) → holder_is_flow f h ≡ false
     other Nobody soon = refl
     other (Currency d) soon = refl
     other (Flow k) soon = grind (arith, nat_tests, eqb-true, flow-place-first)
@@ -115,11 +115,13 @@ module _ (g : Graph) (ok : IsKept g) (f i : ℕ) (first : IsFirstAt (is_open_as 
         (λ t soon. route-same g (remove_flow g f) t refl (spot t.holder soon))
         ∙ ap (routes_of (remove_flow g f) b) (none-release_from g.tickets each)
 
-pub kept-closed : (net : Net) (tickets_of_all : List ℕ) (g : Graph) (f i : ℕ) → IsKept g → length tickets_of_all ≡ 64
+pub well_formed-closed : (valuation : Valuation) (tickets_of_all : List ℕ) (g : Graph) (f i : ℕ) → IsWellFormed g
+    → length tickets_of_all ≡ 64
     → position (λ (o : OpenFlow). nat_eq f o.number) (map (λ (e : NameBytes × OpenFlow). e.1) g.flows) ≡ Some i
-    → AreIdle net.funding.items (flags_of net.active.value) i → IsCurrent net tickets_of_all g
-    → IsCurrent net tickets_of_all (remove_flow g f)
-kept-closed net tickets_of_all g f i ok long found idle kept = kept-ready h net tickets_of_all (kept-remove_flow g ok f)
+    → AreIdle valuation.funding.items (flags_of valuation.active.value) i → IsCurrent valuation tickets_of_all g
+    → IsCurrent valuation tickets_of_all (remove_flow g f)
+well_formed-closed valuation tickets_of_all g f i ok long found idle kept =
+    kept-ready h valuation tickets_of_all (well_formed-remove_flow g ok f)
     long ready
   where
     h : Graph
@@ -133,7 +135,8 @@ kept-closed net tickets_of_all g f i ok long found idle kept = kept-ready h net 
 
     routes : (b : Bool) → routes_of g b g.tickets ≡ routes_of h b h.tickets
     routes =
-        routes-remove_flow g ok f i first net.funding.items kept.net_ready.begun.funding (λ p le lt. (idle p le lt).1)
+        routes-remove_flow g ok f i first valuation.funding.items
+        kept.valuation_ready.begun.funding (λ p le lt. (idle p le lt).1)
 
-    ready : IsReady net tickets_of_all (backs_of h) (funds_of h) (activity_of h)
+    ready : IsReady valuation tickets_of_all (backs_of h) (funds_of h) (activity_of h)
     ready = grind (arith, nat_tests, relit, h, routes, activity-left, first, still)

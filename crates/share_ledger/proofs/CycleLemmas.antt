@@ -9,12 +9,13 @@ use Rattle.std.proofs.lemmas.Bool.Decides.{nat_tests}
 use Rattle.share_model.specs.declared.funding.Holder.{Holder}
 use Rattle.share_model.specs.declared.funding.Holder.TheVariants.{Nobody, Currency, Flow}
 use Rattle.share_model.specs.declared.funding.Ticket.{Ticket}
-use Rattle.share_model.specs.funding.Changes.{is_numbered, is_held, is_found_held, held_by, ticket_of, with_holder}
+use Rattle.share_model.specs.funding.Changes.{is_numbered, has_holder, has_found_holder, with_its_holder, ticket_of}
+use Rattle.share_model.specs.funding.Changes.{with_holder}
 use Rattle.share_model.specs.funding.Changes.{found_denomination}
-use Rattle.share_model.specs.funding.Graph.{NameBytes, base, Graph, is_held_by_currency, denominated_in, leads_on}
+use Rattle.share_model.specs.funding.Graph.{NameBytes, base, Graph, holder_is_currency, denominated_in, leads_on}
 use Rattle.share_model.specs.funding.Graph.{chain}
 use Rattle.share_model.specs.funding.Graph.{chain_within, is_deep}
-use Rattle.share_model.specs.funding.Kept.{names_of, times, IsHolderKnown, IsKept}
+use Rattle.share_model.specs.funding.WellFormed.{names_of, times, IsHolderKnown, IsWellFormed}
 use Rattle.share_model.proofs.lemmas.lists.CountLemmas.{any-filter}
 use Rattle.share_model.specs.lists.Each.{Each}
 use Rattle.share_model.proofs.lemmas.lists.FirstItemLemmas.{each_map, each-change_first, each-find}
@@ -69,7 +70,7 @@ module _ (ss : List (List FundingTicket)) (order : ℕ → ℕ) (o : AreOrdered 
           (still (funding_tickets_at ss k) (o.spot k) (omega arith) (o.before k above below))
 
 -- The flagged places are those of the currencies that one backs
-module _ (g : Graph) (ok : IsKept g) (ss : List (List FundingTicket)) (ticketed : AreTicketed (backs_of g) ss)
+module _ (g : Graph) (ok : IsWellFormed g) (ss : List (List FundingTicket)) (ticketed : AreTicketed (backs_of g) ss)
     (rank : ℕ → ℕ)
     (ranks : AreRanks ss rank) (c : NameBytes) (made : bytes_eq c base ≡ false) (known : 1 ≤ times c (names_of g))
     (flag : ℕ → Bool) (backed : AreBacked ss (place (names_of g) c) flag) where
@@ -111,7 +112,7 @@ module _ (g : Graph) (ok : IsKept g) (ss : List (List FundingTicket)) (ticketed 
           let p = place (names_of g) d in
           let stands = subst (IsHolderKnown g) held at.holder_known in
           let lt = below g ok d stands in
-          let up = past-base g d (name_sym d base ∙ sym (ap (is_held_by_currency base) held) ∙ at.unbacked) in
+          let up = past-base g d (name_sym d base ∙ sym (ap (holder_is_currency base) held) ∙ at.unbacked) in
           let ticket : backs g ss ticketed flag p t ≡ true =
           ap (λ h. leads_on (λ e. nat_eq p (place (names_of g) e)) h && is_flagged t.denomination) held
           ∙ ap (λ b. b && is_flagged t.denomination) (eq-eqb p p refl) ∙ from in
@@ -212,7 +213,7 @@ module _ (g : Graph) (ok : IsKept g) (ss : List (List FundingTicket)) (ticketed 
           absurd (true≢false (sym (leads-flag leads.0 c d lit leads.1) ∙ e))
 
 -- The funding tickets and the funding of a currency by the ticket of a number
-module _ (g : Graph) (ok : IsKept g) (ss : List (List FundingTicket)) (ticketed : AreTicketed (backs_of g) ss)
+module _ (g : Graph) (ok : IsWellFormed g) (ss : List (List FundingTicket)) (ticketed : AreTicketed (backs_of g) ss)
     (rank : ℕ → ℕ)
     (ranks : AreRanks ss rank) (n : ℕ) (c : NameBytes) (t : Ticket) (made : bytes_eq c base ≡ false)
     (known : 1 ≤ times c (names_of g)) (there : ticket_of g n ≡ Some t) (from to : ℕ)
@@ -239,10 +240,10 @@ module _ (g : Graph) (ok : IsKept g) (ss : List (List FundingTicket)) (ticketed 
       (subst (λ p. high p < high (place (names_of g) c)) from_is (subst (λ p. high from < high p) to_is under.1.1)) in
       (ap (λ o. chain_within g.tickets 8 c (found_denomination o)) there ∙ stand.0, stand.1)
 
-  module _ (free : is_found_held (ticket_of g n) ≡ false) where
+  module _ (free : has_found_holder (ticket_of g n) ≡ false) where
     funded-placed : Each (IsPlaced g) funded
     funded-placed =
-        each-change_first (IsPlaced g) (IsPlaced g) (is_numbered n) (held_by (Currency c)) (λ t e. e)
+        each-change_first (IsPlaced g) (IsPlaced g) (is_numbered n) (with_its_holder (Currency c)) (λ t e. e)
         (λ t e. record {
           denomination_known = e.denomination_known;
           holder_known = known;
@@ -251,7 +252,7 @@ module _ (g : Graph) (ok : IsKept g) (ss : List (List FundingTicket)) (ticketed 
         })
         g.tickets (placed g ok)
 
-    never : (test : ℕ → Bool) (p : ℕ) (h : Holder) → t.holder ≡ h → is_held h ≡ false
+    never : (test : ℕ → Bool) (p : ℕ) (h : Holder) → t.holder ≡ h → has_holder h ≡ false
         → backs g ss ticketed test p t ≡ false
     never test p Nobody is e =
         ap (λ h. leads_on (λ d. nat_eq p (place (names_of g) d)) h && test (place (names_of g) t.denomination)) is

@@ -11,14 +11,14 @@ use Rattle.share_model.specs.declared.funding.Holder.{Holder}
 use Rattle.share_model.specs.declared.funding.Holder.TheVariants.{Nobody, Currency, Flow}
 use Rattle.share_model.specs.declared.funding.Ticket.{Ticket}
 use Rattle.share_model.specs.declared.funding.OpenFlow.{OpenFlow}
-use Rattle.share_model.specs.funding.Graph.{NameBytes, base, Graph, is_held_by_currency, denominated_in, backing}
+use Rattle.share_model.specs.funding.Graph.{NameBytes, base, Graph, holder_is_currency, denominated_in, backing}
 use Rattle.share_model.specs.funding.Graph.{is_active_flow}
 use Rattle.share_model.specs.funding.Graph.{is_active_holder, act, is_active, active, worth_by, val, tickets}
 use Rattle.share_model.specs.lists.Each.{Each}
 use Rattle.share_model.proofs.lemmas.lists.FirstItemLemmas.{each_map}
 use Rattle.share_model.proofs.lemmas.lists.SumLemmas.{Each-filter, sum_by-same, sum_by-same_of, sum_by-filter}
 use Rattle.share_model.proofs.lemmas.lists.SumLemmas.{name_sym, same_name}
-use Rattle.share_model.specs.funding.Kept.{names_of, times, times_open, IsHolderKnown, IsKept}
+use Rattle.share_model.specs.funding.WellFormed.{names_of, times, times_open, IsHolderKnown, IsWellFormed}
 use Rattle.share_model.specs.funding.Laws.{uncapped_tickets}
 use Rattle.share_model.proofs.lemmas.funding.SettledGraphLemmas.{any-same, act-unique, val-unique, any-above}
 use Rattle.share_ledger.specs.declared.routes.Route.{Route}
@@ -30,8 +30,8 @@ use Rattle.share_ledger.specs.FundingTickets.{funding_ticket_worth, funding_tick
 use Rattle.share_ledger.specs.FundingTickets.{AreCounted, AreAwake, AreValued}
 use Rattle.share_ledger.specs.FundingTickets.{AreShared, HaveValues, IsFundingTicketWithin, backs_of, funds_of}
 use Rattle.share_ledger.specs.Ranks.{AreRanks}
-use Rattle.share_ledger.specs.declared.net.Net.{Net}
-use Rattle.share_ledger.specs.Nets.{HasInputs, IsReady, activity_of}
+use Rattle.share_ledger.specs.declared.valuation.Valuation.{Valuation}
+use Rattle.share_ledger.specs.Valuations.{HasInputs, IsReady, activity_of}
 use Rattle.share_ledger.specs.Cache.{ticket_list, IsCurrent}
 use Rattle.share_ledger.proofs.PlaceLemmas.{place-base}
 use Rattle.share_ledger.proofs.WeightLemmas.{worth_at-above}
@@ -76,13 +76,13 @@ worth_at-value_to rs ss on v whole p ticketed lt = by (on p) refl
 
 -- no route that backs a currency leads to `base`
 backs-apart : (g : Graph) (ts : List Ticket)
-    → Each (λ (t : Ticket). is_held_by_currency base t.holder ≡ false) ts
+    → Each (λ (t : Ticket). holder_is_currency base t.holder ≡ false) ts
     → Each (λ (r : Route). nat_eq r.to 0 ≡ false) (routes_of g true ts)
 unfolding routes_of
 backs-apart g [] each = tt
 backs-apart g (t ∷ ts) each = grind (arith, nat_tests, place-base, name_sym, backs-apart g ts each.1)
 
-module _ (g : Graph) (ok : IsKept g) (lit on : ℕ → Bool) (whole value : ℕ → ℕ)
+module _ (g : Graph) (ok : IsWellFormed g) (lit on : ℕ → Bool) (whole value : ℕ → ℕ)
     (flows : (f : ℕ) → 1 ≤ times_open f g.flows → lit (flow_place g.flows f) ≡ is_active_flow g f)
     (counted : AreCounted (backs_of g) (funds_of g) on lit whole) (awake : AreAwake on whole) where
   -- nothing is said of the place of `base`
@@ -129,17 +129,17 @@ module _ (g : Graph) (ok : IsKept g) (lit on : ℕ → Bool) (whole value : ℕ 
   -- a ticket that has a place funds no `base`
   pub record IsSaid (t : Ticket) : Type 0 where
     pub place_known : IsHolderKnown g t.holder
-    pub unbacked : is_held_by_currency base t.holder ≡ false
+    pub unbacked : holder_is_currency base t.holder ≡ false
 
   all-said : Each IsSaid g.tickets
   all-said = all g.tickets ok.held ok.shallow.unbacked
     where
       all : (ts : List Ticket) → Each (λ (t : Ticket). IsHolderKnown g t.holder) ts
-          → Each (λ (t : Ticket). is_held_by_currency base t.holder ≡ false) ts → Each IsSaid ts
+          → Each (λ (t : Ticket). holder_is_currency base t.holder ≡ false) ts → Each IsSaid ts
       all [] a b = tt
       all (t ∷ ts) a b = (record { place_known = a.0; unbacked = b.0 }, all ts a.1 b.1)
 
-  lead-saying : (h : Holder) → IsHolderKnown g h → is_held_by_currency base h ≡ false → lead g on h ≡ saying h
+  lead-saying : (h : Holder) → IsHolderKnown g h → holder_is_currency base h ≡ false → lead g on h ≡ saying h
   unfolding saying
   lead-saying Nobody known other = refl
   lead-saying (Currency c) known other = on-said c known (name_sym c base ∙ other)
@@ -309,49 +309,54 @@ take-parts part (x ∷ xs) (y ∷ ys) d le at =
     ap (λ z. z ∷ take (length xs) ys) (sym (same_Some (part x) y (at 0 (omega arith))))
     ∙ ap (λ zs. part x ∷ zs) (take-parts part xs ys d (omega arith) (λ i lt. at (suc i) (omega arith)))
 
--- a settled net gives the tickets of all flows
-tickets_of_all-computed : (g : Graph) (net : Net) (tickets_of_all : List ℕ) → IsKept g → length tickets_of_all ≡ 64
-    → IsReady net tickets_of_all (backs_of g) (funds_of g) (activity_of g)
+-- a settled valuation gives the tickets of all flows
+tickets_of_all-computed : (g : Graph) (valuation : Valuation) (tickets_of_all : List ℕ) → IsWellFormed g
+    → length tickets_of_all ≡ 64
+    → IsReady valuation tickets_of_all (backs_of g) (funds_of g) (activity_of g)
     → take (length g.flows) tickets_of_all ≡ ticket_list g
-tickets_of_all-computed g net tickets_of_all ok long ready =
+tickets_of_all-computed g valuation tickets_of_all ok long ready =
     let begun = ready.begun in
     take-parts (λ (e : NameBytes × OpenFlow). tickets g e.1.number) g.flows tickets_of_all 0
     (let few = ok.few_flows in omega arith)
-    (share-is g ok (flags_of net.active.value) (flags_of net.awake.value) (numbers_of net.weights.value)
-    (numbers_of net.values.value)
+    (share-is g ok (flags_of valuation.active.value) (flags_of valuation.awake.value)
+    (numbers_of valuation.weights.value)
+    (numbers_of valuation.values.value)
     (λ f known. begun.active_is (flow_place g.flows f)
     ∙ activity-at f g.flows known (ok.sound.numbers f)) begun.counted
-    ready.awake_is net.backing.items begun.backing ready.valued net.funding.items (numbers_of tickets_of_all)
+    ready.awake_is valuation.backing.items begun.backing ready.valued
+    valuation.funding.items (numbers_of tickets_of_all)
     begun.funding
     ready.shared)
 
 -- so it is what is kept
-pub kept-ready : (g : Graph) (net : Net) (tickets_of_all : List ℕ) → IsKept g → length tickets_of_all ≡ 64
-    → IsReady net tickets_of_all (backs_of g) (funds_of g) (activity_of g) → IsCurrent net tickets_of_all g
-kept-ready g net tickets_of_all ok long ready =
-    record { of_flows = tickets_of_all-computed g net tickets_of_all ok long ready; net_ready = ready }
+pub kept-ready : (g : Graph) (valuation : Valuation) (tickets_of_all : List ℕ) → IsWellFormed g
+    → length tickets_of_all ≡ 64
+    → IsReady valuation tickets_of_all (backs_of g) (funds_of g) (activity_of g) → IsCurrent valuation tickets_of_all g
+kept-ready g valuation tickets_of_all ok long ready =
+    record { of_flows = tickets_of_all-computed g valuation tickets_of_all ok long ready; valuation_ready = ready }
 
 -- counted places that are awake have values
-values-of : (g : Graph) (net : Net) (awake : ℕ → Bool) (whole : ℕ → ℕ) → IsKept g
-    → HasInputs net (backs_of g) (funds_of g) (activity_of g)
-    → AreCounted (backs_of g) (funds_of g) awake (flags_of net.active.value) whole → AreAwake awake whole
-    → HaveValues net.backing.items awake whole
-values-of g net awake whole ok begun counted lit =
-    have-values g ok (flags_of net.active.value) awake whole (numbers_of net.values.value)
+values-of : (g : Graph) (valuation : Valuation) (awake : ℕ → Bool) (whole : ℕ → ℕ) → IsWellFormed g
+    → HasInputs valuation (backs_of g) (funds_of g) (activity_of g)
+    → AreCounted (backs_of g) (funds_of g) awake (flags_of valuation.active.value) whole → AreAwake awake whole
+    → HaveValues valuation.backing.items awake whole
+values-of g valuation awake whole ok begun counted lit =
+    have-values g ok (flags_of valuation.active.value) awake whole (numbers_of valuation.values.value)
     (λ f known. begun.active_is (flow_place g.flows f) ∙ activity-at f g.flows known (ok.sound.numbers f)) counted lit
-    net.backing.items (numbers_of net.ranks.value) begun.backing begun.ranked
+    valuation.backing.items (numbers_of valuation.ranks.value) begun.backing begun.ranked
 
 -- the same of what is lent
-pub values-there : (g : Graph) (net : Net) (awake active : List Bool) (weights : List ℕ)
+pub values-there : (g : Graph) (valuation : Valuation) (awake active : List Bool) (weights : List ℕ)
     (bs : List (List FundingTicket))
-    (lit : List Bool) (ws : List ℕ) → IsKept g → HasInputs net (backs_of g) (funds_of g) (activity_of g)
+    (lit : List Bool) (ws : List ℕ) → IsWellFormed g → HasInputs valuation (backs_of g) (funds_of g) (activity_of g)
     → AreCounted (backs_of g) (funds_of g) (flags_of awake) (flags_of active) (numbers_of weights)
-    → AreAwake (flags_of awake) (numbers_of weights) → active ≡ net.active.value → bs ≡ net.backing.items → lit ≡ awake
+    → AreAwake (flags_of awake) (numbers_of weights) → active ≡ valuation.active.value → bs ≡ valuation.backing.items
+    → lit ≡ awake
     → ws ≡ weights → HaveValues bs (flags_of lit) (numbers_of ws)
-values-there g net awake active weights bs lit ws ok begun counted on same funding_tickets flags numbers =
+values-there g valuation awake active weights bs lit ws ok begun counted on same funding_tickets flags numbers =
     subst (λ (ss : List (List FundingTicket)). HaveValues ss (flags_of lit) (numbers_of ws)) (sym funding_tickets)
-    (subst (λ (fs : List Bool). HaveValues net.backing.items (flags_of fs) (numbers_of ws)) (sym flags)
-    (subst (λ (ns : List ℕ). HaveValues net.backing.items (flags_of awake) (numbers_of ns)) (sym numbers)
-    (values-of g net (flags_of awake) (numbers_of weights) ok begun
+    (subst (λ (fs : List Bool). HaveValues valuation.backing.items (flags_of fs) (numbers_of ws)) (sym flags)
+    (subst (λ (ns : List ℕ). HaveValues valuation.backing.items (flags_of awake) (numbers_of ns)) (sym numbers)
+    (values-of g valuation (flags_of awake) (numbers_of weights) ok begun
     (subst (λ (fs : List Bool). AreCounted (backs_of g) (funds_of g) (flags_of awake) (flags_of fs)
     (numbers_of weights)) same counted) on)))

@@ -15,7 +15,7 @@ use Rattle.share_model.specs.lists.Rises.{Rises}
 use Rattle.share_model.specs.declared.funding.OpenFlow.{OpenFlow}
 use Rattle.share_model.specs.funding.Graph.{NameBytes, Graph, flow_numbers, tickets}
 use Rattle.share_model.specs.funding.Changes.{is_open_as, added_flow, add_flow}
-use Rattle.share_model.specs.funding.Kept.{IsKept}
+use Rattle.share_model.specs.funding.WellFormed.{IsWellFormed}
 use Rattle.share_model.proofs.lemmas.funding.HolderLemmas.{idle-none, leaves-tickets}
 use Rattle.share_ledger.proofs.FirstItemLemmas.{IsFirstAt, position-first, position-none, flow-first, flow-none}
 use Rattle.share_ledger.specs.Cache.{ticket_list}
@@ -89,7 +89,7 @@ fresh-idle f (e ∷ es) fresh = by (nat_eq f e.1.number) fresh (fresh-idle f es)
     by true fresh rest = absurd cc
     by false fresh rest = rest fresh
 
-pub tickets_of_all-opened : (before after : List ℕ) (g : Graph) (name : NameBytes) (n : ℕ) → IsKept g → n
+pub tickets_of_all-opened : (before after : List ℕ) (g : Graph) (name : NameBytes) (n : ℕ) → IsWellFormed g → n
     ≡ length g.flows
     → take (n + 1) after ≡ take n before ++ 0 ∷ [] → AreShares before g → AreShares after (add_flow g name)
 unfolding Rises

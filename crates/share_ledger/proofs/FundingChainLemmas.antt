@@ -11,7 +11,7 @@ use Rattle.share_model.specs.declared.funding.Ticket.{Ticket}
 use Rattle.share_model.specs.funding.Graph.{NameBytes, base, Graph, denominated_in, leads_on, runs}
 use Rattle.share_model.specs.funding.Graph.{is_deep}
 use Rattle.share_model.proofs.lemmas.funding.SettledGraphLemmas.{runs-none}
-use Rattle.share_model.specs.funding.Kept.{names_of, times, IsKept}
+use Rattle.share_model.specs.funding.WellFormed.{names_of, times, IsWellFormed}
 use Rattle.share_model.proofs.lemmas.lists.CountLemmas.{any-filter}
 use Rattle.share_model.specs.lists.Each.{Each}
 use Rattle.share_model.proofs.lemmas.lists.SumLemmas.{sum_by-same, same_name, name_same, name_sym}
@@ -138,7 +138,7 @@ module _ (g : Graph) (ss : List (List FundingTicket)) (ticketed : AreTicketed (b
           record { holder = d; held = is; at = eqb-true p (place (names_of g) d) two.0; passes = two.1 }
 
   -- Long chains of funding tickets are long chains of currencies, even if one more ticket backs
-  module _ (ok : IsKept g) (from to : ℕ) (ts : List Ticket) (known : Each (IsPlaced g) ts)
+  module _ (ok : IsWellFormed g) (from to : ℕ) (ts : List Ticket) (known : Each (IsPlaced g) ts)
       (kept : (test : ℕ → Bool) (p : ℕ) → list_any (backs test p) g.tickets ≡ true
       → list_any (backs test p) ts ≡ true)
       (extra : (m p : ℕ) → (nat_eq p to && is_tall ss from to m from) ≡ true
@@ -204,7 +204,7 @@ module _ (g : Graph) (ss : List (List FundingTicket)) (ticketed : AreTicketed (b
         (runs-on one.0 back.holder 0 back.held one.1.1.1 refl)
 
   -- no chain of the graph is long
-  module _ (ok : IsKept g) where
+  module _ (ok : IsWellFormed g) where
     no-base : (test : ℕ → Bool) → list_any (λ (s : FundingTicket). test s.from) (funding_tickets_at ss 0) ≡ false
     no-base test = by (list_any (λ (s : FundingTicket). test s.from) (funding_tickets_at ss 0)) refl
       where

@@ -6,12 +6,12 @@ use Rattle.std.proofs.lemmas.Bool.Decides.{nat_tests}
 use Rattle.std.proofs.lemmas.List.Sums.{sum_by-cons}
 use Rattle.std.proofs.lemmas.Bool.{and_parts, eqb-true, le-leb, leb-true, lt-ltb, ltb-true}
 use Rattle.share_model.specs.funding.Graph.{Graph}
-use Rattle.share_model.specs.funding.Kept.{IsKept}
+use Rattle.share_model.specs.funding.WellFormed.{IsWellFormed}
 use Rattle.share_model.specs.lists.Each.{Each}
 use Rattle.share_model.proofs.lemmas.lists.FirstItemLemmas.{each_map}
 use Rattle.share_ledger.specs.declared.routes.Route.{Route}
 use Rattle.share_ledger.specs.declared.funding_tickets.FundingTicket.{FundingTicket}
-use Rattle.share_ledger.specs.Nets.{GrowsBy}
+use Rattle.share_ledger.specs.Valuations.{GrowsBy}
 use Rattle.share_ledger.specs.Routes.{IsRouteWithin, amended, weight_from}
 use Rattle.share_ledger.specs.FundingTickets.{AreTicketed, IsFundingTicketWithin, funding_ticket_of, funding_tickets_at}
 use Rattle.share_ledger.specs.FundingTickets.{AreCounted, backs_of}
@@ -254,7 +254,7 @@ module _ (backs funds more_backs more_funds : List Route) (r : Route) (a b : Boo
       omega (arith, was, sum)
 
 -- the sum of all is small
-pub sum-bound : (g : Graph) (on active : ℕ → Bool) → IsKept g → (x : ℕ)
+pub sum-bound : (g : Graph) (on active : ℕ → Bool) → IsWellFormed g → (x : ℕ)
     → weight_from (backs_of g) on x + weight_from (funds_of g) active x ≤ 2 ^ 31
 sum-bound g on active ok x =
     let one = weight_from-bound (backs_of g) on x (done-within g ok true (backs_of g) refl)

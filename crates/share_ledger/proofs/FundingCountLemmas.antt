@@ -11,12 +11,12 @@ use Rattle.share_model.specs.declared.funding.Ticket.{Ticket}
 use Rattle.share_model.specs.declared.funding.OpenFlow.{OpenFlow}
 use Rattle.share_model.specs.funding.Graph.{NameBytes, Graph, backing, funding}
 use Rattle.share_model.specs.funding.Changes.{is_open_as}
-use Rattle.share_model.specs.funding.Kept.{names_of, times, times_open, IsHolderKnown, IsKept}
+use Rattle.share_model.specs.funding.WellFormed.{names_of, times, times_open, IsHolderKnown, IsWellFormed}
 use Rattle.share_model.proofs.lemmas.lists.SumLemmas.{sum_by-same, sum_by-same_of}
 use Rattle.share_ledger.specs.declared.routes.Route.{Route}
 use Rattle.share_ledger.specs.declared.funding_tickets.FundingTicket.{FundingTicket}
 use Rattle.share_ledger.specs.Places.{place}
-use Rattle.share_ledger.specs.Nets.{GrowsBy}
+use Rattle.share_ledger.specs.Valuations.{GrowsBy}
 use Rattle.share_ledger.specs.Routes.{is_kind, flow_place, holder_place, routes_of}
 use Rattle.share_ledger.specs.FundingTickets.{is_like, funding_tickets_at, funding_ticket_of, AreTicketed, backs_of}
 use Rattle.share_ledger.specs.FundingTickets.{funds_of}
@@ -34,13 +34,13 @@ ones {X} (x ∷ xs) =
     omega arith
 
 -- the tickets that fund a currency
-pub backing-routes : (g : Graph) → IsKept g → (c : NameBytes) → 1 ≤ times c (names_of g)
+pub backing-routes : (g : Graph) → IsWellFormed g → (c : NameBytes) → 1 ≤ times c (names_of g)
     → sum_by (λ (r : Route). cond (nat_eq (place (names_of g) c) r.to) 1 0) (backs_of g) ≡ length (backing g.tickets c)
 unfolding backing
 backing-routes g ok c known =
     grind (arith, nat_tests, sum-routes, sum_by-same_of, IsPlaced, placed, length-filter, place-same)
 
-pub backing-count : (g : Graph) → IsKept g → (ss : List (List FundingTicket)) → AreTicketed (backs_of g) ss
+pub backing-count : (g : Graph) → IsWellFormed g → (ss : List (List FundingTicket)) → AreTicketed (backs_of g) ss
     → (c : NameBytes)
     → 1 ≤ times c (names_of g) → length (funding_tickets_at ss (place (names_of g) c)) ≡ length (backing g.tickets c)
 backing-count g ok ss ticketed c known =
@@ -60,13 +60,14 @@ first-open f (e ∷ es) (suc i) first =
     omega arith
 
 -- the tickets that fund a flow
-pub funding-routes : (g : Graph) → IsKept g → (f : ℕ) → 1 ≤ times_open f g.flows
+pub funding-routes : (g : Graph) → IsWellFormed g → (f : ℕ) → 1 ≤ times_open f g.flows
     → sum_by (λ (r : Route). cond (nat_eq (flow_place g.flows f) r.to) 1 0) (funds_of g) ≡ length (funding g.tickets f)
 unfolding funding
 funding-routes g ok f known =
     grind (arith, nat_tests, sum-routes, sum_by-same_of, IsPlaced, placed, length-filter, flow-place-same)
 
-pub funding-count : (g : Graph) → IsKept g → (ss : List (List FundingTicket)) → AreTicketed (funds_of g) ss → (f i : ℕ)
+pub funding-count : (g : Graph) → IsWellFormed g → (ss : List (List FundingTicket)) → AreTicketed (funds_of g) ss
+    → (f i : ℕ)
     → IsFirstAt (is_open_as f) g.flows i → length (funding_tickets_at ss i) ≡ length (funding g.tickets f)
 funding-count g ok ss ticketed f i first =
     ones (funding_tickets_at ss i) ∙ ticketed.ticketed (λ _. 1) i inside
@@ -80,7 +81,7 @@ funding-count g ok ss ticketed f i first =
     inside = grind (arith, nat_tests, flow-place-below, first-open, at)
 
 -- no holder has more than sixteen
-pub routes-few_at : (g : Graph) → IsKept g → (b : Bool) (p : ℕ)
+pub routes-few_at : (g : Graph) → IsWellFormed g → (b : Bool) (p : ℕ)
     → sum_by (λ (r : Route). cond (nat_eq p r.to) 1 0) (routes_of g b g.tickets) ≤ 16
 routes-few_at g ok b p =
     elim (cases_lt 0 (sum_by (λ (r : Route). cond (nat_eq p r.to) 1 0) (routes_of g b g.tickets))) [
@@ -119,7 +120,7 @@ routes-few_at g ok b p =
     by b some = grind (arith, nat_tests, found, IsPlaced, placed, one, at-holder)
 
 -- there is room for one funding ticket more if that is so with it
-pub room-more : (g : Graph) → IsKept g → (b : Bool) (rs : List Route) (r : Route) (ss : List (List FundingTicket))
+pub room-more : (g : Graph) → IsWellFormed g → (b : Bool) (rs : List Route) (r : Route) (ss : List (List FundingTicket))
     → AreTicketed rs ss
     → r.to < 65 → GrowsBy true rs (routes_of g b g.tickets) r → length (funding_tickets_at ss r.to) < 16
 room-more g ok b rs r ss ticketed lt grows =

@@ -15,7 +15,7 @@ use Rattle.share_ledger.specs.declared.routes.Route.{Route}
 use Rattle.share_ledger.specs.declared.funding_tickets.FundingTicket.{FundingTicket}
 use Rattle.share_ledger.specs.Routes.{weight_from}
 use Rattle.share_ledger.specs.FundingTickets.{funding_ticket_of, funding_tickets_at}
-use Rattle.share_ledger.specs.Nets.{activity_of}
+use Rattle.share_ledger.specs.Valuations.{activity_of}
 
 turned : (a b : ℕ) → nat_eq a b ≡ nat_eq b a
 turned a b = grind (arith, nat_tests)

@@ -12,13 +12,14 @@ use Rattle.share_model.specs.funding.Graph.{NameBytes, Graph}
 use Rattle.share_model.proofs.lemmas.funding.RefusalLemmas.{not-refused}
 use Rattle.share_model.specs.funding.Changes.{fund_currency_refusal, fund_flow_refusal}
 use Rattle.share_model.specs.funding.Changes.{unfund_refusal}
-use Rattle.share_model.specs.funding.Changes.{ticket_of, is_numbered, is_held, held_by, with_holder, is_found_held}
+use Rattle.share_model.specs.funding.Changes.{ticket_of, is_numbered, has_holder, with_its_holder, with_holder}
+use Rattle.share_model.specs.funding.Changes.{has_found_holder}
 use Rattle.share_model.specs.funding.Changes.{with_amount, amend}
 use Rattle.share_model.proofs.lemmas.lists.FirstItemLemmas.{find-change_first}
 use Rattle.share_model.specs.lists.Change.{change_first}
-use Rattle.share_ledger.specs.declared.net.Net.{Net}
+use Rattle.share_ledger.specs.declared.valuation.Valuation.{Valuation}
 use Rattle.share_ledger.specs.declared.routes.Route.{Route}
-use Rattle.share_ledger.specs.Nets.{activity_of, GrowsBy, ComesToFund, CeasesToFund, GetsAmount, HasInputs}
+use Rattle.share_ledger.specs.Valuations.{activity_of, GrowsBy, ComesToFund, CeasesToFund, GetsAmount, HasInputs}
 use Rattle.share_ledger.specs.Routes.{amended, is_kind, route_of, routes_of, IsRouted}
 use Rattle.share_ledger.specs.FundingTickets.{backs_of}
 use Rattle.share_ledger.specs.FundingTickets.{funds_of}
@@ -41,35 +42,35 @@ part g b F t = cond (is_kind b t.holder) (F (route_of g t)) 0
 pub routes-changed : (g : Graph) (n : ℕ) (h : Holder) (t : Ticket) → ticket_of g n ≡ Some t → (b : Bool) (F : Route → ℕ)
     → sum_by F (routes_of (record g { tickets = with_holder n h g.tickets }) b (with_holder n h g.tickets))
     + cond (is_kind b t.holder) (F (route_of g t)) 0
-    ≡ sum_by F (routes_of g b g.tickets) + cond (is_kind b h) (F (route_of g (held_by h t))) 0
+    ≡ sum_by F (routes_of g b g.tickets) + cond (is_kind b h) (F (route_of g (with_its_holder h t))) 0
 unfolding part
 routes-changed g n h t found b F =
     let after = sum-routes (record g { tickets = with_holder n h g.tickets }) F b in
     let before = sum-routes g F b in
-    let changed = sum-changed (part g b F) (is_numbered n) (held_by h) g.tickets t found in
+    let changed = sum-changed (part g b F) (is_numbered n) (with_its_holder h) g.tickets t found in
     omega (arith, after, before, changed)
 
 -- A ticket that begins or ceases to fund, among the routes
 module _ (g : Graph) (n : ℕ) where
   -- a ticket without a holder is no route
-  unheld-kind : (h : Holder) (b : Bool) → is_held h ≡ false → is_kind b h ≡ false
+  unheld-kind : (h : Holder) (b : Bool) → has_holder h ≡ false → is_kind b h ≡ false
   unheld-kind Nobody b e = refl
   unheld-kind (Currency c) b e = absurd (true≢false e)
   unheld-kind (Flow f) b e = absurd (true≢false e)
 
-  pub funded-grows : (h : Holder) (t u : Ticket) (b k : Bool) → ticket_of g n ≡ Some t → is_held t.holder ≡ false
+  pub funded-grows : (h : Holder) (t u : Ticket) (b k : Bool) → ticket_of g n ≡ Some t → has_holder t.holder ≡ false
       → ticket_of (record g { tickets = with_holder n h g.tickets }) n ≡ Some u → is_kind b h ≡ k
       → GrowsBy k (routes_of g b g.tickets)
       (routes_of (record g { tickets = with_holder n h g.tickets }) b (with_holder n h g.tickets)) (route_of g u)
   funded-grows h t u b k found unheld after kind F =
       let changed = routes-changed g n h t found b F in
       let none = ap {B = ℕ} (λ x. cond x (F (route_of g t)) 0) (unheld-kind t.holder b unheld) in
-      let same : held_by h t ≡ u =
-      same_Some (held_by h t) u
-      (sym (ap (option_map (held_by h)) found) ∙ sym (find-change_first (is_numbered n) (held_by h)
+      let same : with_its_holder h t ≡ u =
+      same_Some (with_its_holder h t) u
+      (sym (ap (option_map (with_its_holder h)) found) ∙ sym (find-change_first (is_numbered n) (with_its_holder h)
       (λ x e. e) g.tickets)
       ∙ after) in
-      let more = ap {B = ℕ} (λ x. cond x (F (route_of g (held_by h t))) 0) kind in
+      let more = ap {B = ℕ} (λ x. cond x (F (route_of g (with_its_holder h t))) 0) kind in
       let route = ap {B = ℕ} (λ (x : Ticket). cond k (F (route_of g x)) 0) same in
       omega (arith, changed, none, more, route)
 
@@ -94,30 +95,31 @@ module _ (g : Graph) (n : ℕ) where
       omega (arith, after, before, changed, fewer, old, new)
 
 -- a route is either of the backing or of what funds flows
-other-kind : (h : Holder) (b : Bool) → is_held h ≡ true → b ≡ is_kind true h → is_kind false h ≡ not b
+other-kind : (h : Holder) (b : Bool) → has_holder h ≡ true → b ≡ is_kind true h → is_kind false h ≡ not b
 other-kind Nobody b held kind = absurd (true≢false (sym held))
 other-kind (Currency c) b held kind = ap not (sym kind)
 other-kind (Flow f) b held kind = ap not (sym kind)
 
 -- a ticket that is there and has no holder
 abbrev pub IsFree : Graph → ℕ → Type 0
-IsFree g n = (not (is_some (ticket_of g n)) ≡ false) × (is_found_held (ticket_of g n) ≡ false)
+IsFree g n = (not (is_some (ticket_of g n)) ≡ false) × (has_found_holder (ticket_of g n) ≡ false)
 
-pub comes-to-fund : (g h : Graph) (n : ℕ) (o : Holder) (net : Net) (r : Route) (b : Bool)
+pub comes-to-fund : (g h : Graph) (n : ℕ) (o : Holder) (valuation : Valuation) (r : Route) (b : Bool)
     → h ≡ record g { tickets = with_holder n o g.tickets } → IsFree g n
-    → HasInputs net (backs_of g) (funds_of g) (activity_of g) → IsRouted h n r b → ComesToFund net h r b
-comes-to-fund g h n o net r b e free begun routed =
-    subst (λ h. IsRouted h n r b → ComesToFund net h r b) (sym e) (λ found. by found (ticket_of g n) refl) routed
+    → HasInputs valuation (backs_of g) (funds_of g) (activity_of g) → IsRouted h n r b → ComesToFund valuation h r b
+comes-to-fund g h n o valuation r b e free begun routed =
+    subst (λ h. IsRouted h n r b → ComesToFund valuation h r b) (sym e) (λ found. by found (ticket_of g n) refl) routed
   where
     by : IsRouted (record g { tickets = with_holder n o g.tickets }) n r b → (w : Option Ticket) → ticket_of g n ≡ w
-        → ComesToFund net (record g { tickets = with_holder n o g.tickets }) r b
+        → ComesToFund valuation (record g { tickets = with_holder n o g.tickets }) r b
     by found None q = absurd (true≢false (sym (ap (λ w. not (is_some w)) q) ∙ free.0))
     by found (Some t) q =
         let u = found.0 in
-        let unheld : is_held t.holder ≡ false = sym (ap is_found_held q) ∙ free.1 in
-        let same : held_by o t ≡ u =
-        same_Some (held_by o t) u
-        (sym (ap (option_map (held_by o)) q) ∙ sym (find-change_first (is_numbered n) (held_by o) (λ x e. e) g.tickets)
+        let unheld : has_holder t.holder ≡ false = sym (ap has_found_holder q) ∙ free.1 in
+        let same : with_its_holder o t ≡ u =
+        same_Some (with_its_holder o t) u
+        (sym (ap (option_map (with_its_holder o)) q)
+        ∙ sym (find-change_first (is_numbered n) (with_its_holder o) (λ x e. e) g.tickets)
         ∙ found.1.0) in
         let kind : is_kind true o ≡ b = ap (λ (x : Ticket). is_kind true x.holder) same ∙ sym found.1.3 in
         let other : is_kind false o ≡ not b =
@@ -136,11 +138,11 @@ comes-to-fund g h n o net r b e free begun routed =
           ),
         )
 
-pub ceases-to-fund : (g h : Graph) (n : ℕ) (net : Net) (r : Route) (b : Bool)
+pub ceases-to-fund : (g h : Graph) (n : ℕ) (valuation : Valuation) (r : Route) (b : Bool)
     → h ≡ record g { tickets = with_holder n Nobody g.tickets }
-    → HasInputs net (backs_of g) (funds_of g) (activity_of g) → IsRouted g n r b → CeasesToFund net h r b
-ceases-to-fund g h n net r b e begun found =
-    subst (λ h. CeasesToFund net h r b) (sym e)
+    → HasInputs valuation (backs_of g) (funds_of g) (activity_of g) → IsRouted g n r b → CeasesToFund valuation h r b
+ceases-to-fund g h n valuation r b e begun found =
+    subst (λ h. CeasesToFund valuation h r b) (sym e)
     (let t = found.0 in (
       backs_of g,
       (
@@ -156,16 +158,17 @@ ceases-to-fund g h n net r b e begun found =
       ),
     ))
 
-pub gets-amount : (g h : Graph) (n amount : ℕ) (net : Net) (r : Route) (b : Bool) → h ≡ amend g n amount
-    → HasInputs net (backs_of g) (funds_of g) (activity_of g) → IsRouted g n r b → GetsAmount net h r amount b
-gets-amount g h n amount net r b e begun found =
+pub gets-amount : (g h : Graph) (n amount : ℕ) (valuation : Valuation) (r : Route) (b : Bool) → h ≡ amend g n amount
+    → HasInputs valuation (backs_of g) (funds_of g) (activity_of g) → IsRouted g n r b
+    → GetsAmount valuation h r amount b
+gets-amount g h n amount valuation r b e begun found =
     let t = found.0 in
     let u = record g { tickets = with_holder n Nobody g.tickets } in
     let after = amend g n amount in
     let kind = sym found.1.3 in
     let other = other-kind t.holder b found.1.2 found.1.3 in
-    subst (λ h. GetsAmount net h r amount b) (sym e)
-    (subst (λ q. GetsAmount net after q amount b) (sym found.1.1) (
+    subst (λ h. GetsAmount valuation h r amount b) (sym e)
+    (subst (λ q. GetsAmount valuation after q amount b) (sym found.1.1) (
       backs_of g,
       (
         funds_of g,
@@ -194,9 +197,9 @@ free-flow g n f none = grind (arith, nat_tests, not-refused)
 
 -- and has one then
 pub free-held : (g h : Graph) (n : ℕ) (o : Holder) → h ≡ record g { tickets = with_holder n o g.tickets }
-    → is_held o ≡ true → IsFree g n → is_found_held (ticket_of h n) ≡ true
+    → has_holder o ≡ true → IsFree g n → has_found_holder (ticket_of h n) ≡ true
 free-held g h n o e held free = grind (arith, nat_tests, find-change_first)
 
 -- a ticket that may cease to fund has a holder
-pub held-ticket : (g : Graph) (n : ℕ) → unfund_refusal g n ≡ None → is_found_held (ticket_of g n) ≡ true
+pub held-ticket : (g : Graph) (n : ℕ) → unfund_refusal g n ≡ None → has_found_holder (ticket_of g n) ≡ true
 held-ticket g n none = grind (arith, nat_tests, not-refused)

@@ -4,9 +4,9 @@ use Rattle.std.proofs.Common.{map, sum_by, length, bytes_eq, nat_eq, refl, sym, 
 use Rattle.std.proofs.lemmas.List.Sums.{sum_by-cons}
 use Rattle.std.proofs.lemmas.Bool.Decides.{nat_tests}
 use Rattle.share_model.specs.declared.funding.Ticket.{Ticket}
-use Rattle.share_model.specs.funding.Graph.{NameBytes, base, Graph, is_held_by_currency}
+use Rattle.share_model.specs.funding.Graph.{NameBytes, base, Graph, holder_is_currency}
 use Rattle.share_model.specs.lists.Each.{Each}
-use Rattle.share_model.specs.funding.Kept.{names_of, times, IsHolderKnown, IsKept}
+use Rattle.share_model.specs.funding.WellFormed.{names_of, times, IsHolderKnown, IsWellFormed}
 use Rattle.share_model.proofs.lemmas.lists.SumLemmas.{same_name, name_same, name_sym}
 use Rattle.share_model.proofs.lemmas.funding.SettledGraphLemmas.{none_any}
 use Rattle.share_model.proofs.lemmas.funding.RefusalLemmas.{absent}
@@ -58,15 +58,15 @@ sum_by-map f h (x ∷ xs) =
 pub record IsPlaced (g : Graph) (t : Ticket) : Type 0 where
   pub denomination_known : 1 ≤ times t.denomination (names_of g)
   pub holder_known : IsHolderKnown g t.holder
-  pub unbacked : is_held_by_currency base t.holder ≡ false
+  pub unbacked : holder_is_currency base t.holder ≡ false
   pub amount_small : t.amount ≤ 2 ^ 20
 
-pub placed : (g : Graph) → IsKept g → Each (IsPlaced g) g.tickets
+pub placed : (g : Graph) → IsWellFormed g → Each (IsPlaced g) g.tickets
 placed g ok = all g.tickets ok.sound.known ok.held ok.shallow.unbacked ok.amounts
   where
     all : (ts : List Ticket) → Each (λ (t : Ticket). 1 ≤ times t.denomination (names_of g)) ts
         → Each (λ (t : Ticket). IsHolderKnown g t.holder) ts
-        → Each (λ (t : Ticket). is_held_by_currency base t.holder ≡ false) ts
+        → Each (λ (t : Ticket). holder_is_currency base t.holder ≡ false) ts
         → Each (λ (t : Ticket). (1 ≤ t.amount) × (t.amount ≤ 2 ^ 20)) ts → Each (IsPlaced g) ts
     all [] a b c d = tt
     all (t ∷ ts) a b c d = (

@@ -10,8 +10,8 @@ use Rattle.share_model.specs.declared.funding.Holder.TheVariants.{Nobody, Curren
 use Rattle.share_model.specs.declared.funding.Ticket.{Ticket}
 use Rattle.share_model.specs.funding.Graph.{NameBytes, base, Graph, denominated_in, leads_on, chain}
 use Rattle.share_model.specs.funding.Graph.{chain_within, runs, is_deep}
-use Rattle.share_model.specs.funding.Changes.{is_numbered, held_by, ticket_of, with_holder}
-use Rattle.share_model.specs.funding.Kept.{names_of, IsKept}
+use Rattle.share_model.specs.funding.Changes.{is_numbered, with_its_holder, ticket_of, with_holder}
+use Rattle.share_model.specs.funding.WellFormed.{names_of, IsWellFormed}
 use Rattle.share_model.proofs.lemmas.funding.SettledGraphLemmas.{none_any}
 use Rattle.share_model.specs.lists.Change.{change_first}
 use Rattle.share_model.proofs.lemmas.lists.CountLemmas.{any-filter}
@@ -123,10 +123,10 @@ module _ (g : Graph) (rank : ℕ → ℕ) where
       → Each (λ (t : Ticket). P t.denomination) (with_holder n (Currency c) ts)
   high-written n c P ts each =
       each-change_first (λ (t : Ticket). P t.denomination) (λ (t : Ticket). P t.denomination) (is_numbered n)
-      (held_by (Currency c)) (λ t e. e) (λ t e. e) ts each
+      (with_its_holder (Currency c)) (λ t e. e) (λ t e. e) ts each
 
 -- The funding tickets of a graph that have ranks
-module _ (g : Graph) (ok : IsKept g) (ss : List (List FundingTicket)) (ticketed : AreTicketed (backs_of g) ss)
+module _ (g : Graph) (ok : IsWellFormed g) (ss : List (List FundingTicket)) (ticketed : AreTicketed (backs_of g) ss)
     (rank : ℕ → ℕ)
     (ranks : AreRanks ss rank) where
   -- a funding ticket is below the place of its holder, unless that is `base`

@@ -14,7 +14,7 @@ use Rattle.share_model.specs.declared.funding.Ticket.{Ticket}
 use Rattle.share_model.specs.funding.Graph.{NameBytes, base, Graph}
 use Rattle.share_model.proofs.lemmas.funding.RefusalLemmas.{not-refused}
 use Rattle.share_model.specs.funding.Changes.{is_currency, remove_currency_refusal, remove_currency}
-use Rattle.share_model.specs.funding.Kept.{names_of, IsKept}
+use Rattle.share_model.specs.funding.WellFormed.{names_of, IsWellFormed}
 use Rattle.share_model.specs.lists.Each.{Each}
 use Rattle.share_ledger.specs.Bounds.{AreBefore}
 use Rattle.share_ledger.specs.declared.routes.Route.{Route}
@@ -80,7 +80,7 @@ unfolding routes_of
 routes-none g h b = refl
 
 -- A currency is removed
-module _ (g : Graph) (ok : IsKept g) (c : NameBytes) (unused : remove_currency_refusal g c ≡ None) where
+module _ (g : Graph) (ok : IsWellFormed g) (c : NameBytes) (unused : remove_currency_refusal g c ≡ None) where
   apart : bytes_eq c base ≡ false
   apart = (not-refused (bytes_eq c base) Base _ (not-refused (not (is_currency g c)) NoCurrency _ unused).1).0
 

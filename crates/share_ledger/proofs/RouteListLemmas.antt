@@ -12,7 +12,7 @@ use Rattle.share_model.specs.declared.funding.OpenFlow.{OpenFlow}
 use Rattle.share_model.specs.funding.Graph.{NameBytes, Graph, tickets}
 use Rattle.share_model.specs.funding.Changes.{is_open_as}
 use Rattle.share_model.specs.funding.Laws.{uncapped_tickets}
-use Rattle.share_model.specs.funding.Kept.{times_open, IsKept}
+use Rattle.share_model.specs.funding.WellFormed.{times_open, IsWellFormed}
 use Rattle.share_model.specs.lists.Each.{Each}
 use Rattle.share_ledger.specs.declared.routes.Route.{Route}
 use Rattle.share_ledger.specs.Routes.{flow_place, route_of, is_kind, routes_of, IsRouteWithin, weight_from}
@@ -56,10 +56,10 @@ listed-skip g b ts rs i n t lt at kind so_far =
     grind (arith, nat_tests, append-nil (routes_of g b (take i ts)), routes-step g b ts i t lt at)
 
 -- Routes are within the places, and few
-pub route-within : (g : Graph) → IsKept g → (t : Ticket) → IsPlaced g t → IsRouteWithin (route_of g t)
+pub route-within : (g : Graph) → IsWellFormed g → (t : Ticket) → IsPlaced g t → IsRouteWithin (route_of g t)
 route-within g ok t at = grind (arith, nat_tests, place-below, flow-place-below)
 
-pub routes-within : (g : Graph) (b : Bool) → IsKept g → Each IsRouteWithin (routes_of g b g.tickets)
+pub routes-within : (g : Graph) (b : Bool) → IsWellFormed g → Each IsRouteWithin (routes_of g b g.tickets)
 unfolding routes_of
 routes-within g b ok = all g.tickets (placed g ok)
   where
@@ -202,7 +202,7 @@ at-place share (e ∷ es) (suc i) k held lt once same =
         → cond (nat_eq f e.1.number) 0 (suc (flow_place es f)) ≡ suc (flow_place es f)
     behind f known = grind (arith, nat_tests, turned, more)
 
-pub share-at : (g : Graph) (i n : ℕ) (held : ℕ → ℕ) → IsKept g → i < length g.flows
+pub share-at : (g : Graph) (i n : ℕ) (held : ℕ → ℕ) → IsWellFormed g → i < length g.flows
     → ((f : ℕ) → 1 ≤ times_open f g.flows → held (flow_place g.flows f) ≡ uncapped_tickets g f) → n
     ≡ min (held i) (2 ^ 20)
     → option_map (λ (e : NameBytes × OpenFlow). tickets g e.1.number) (slice_get g.flows i) ≡ Some n

@@ -9,13 +9,13 @@ use Rattle.share_model.specs.declared.funding.Holder.{Holder}
 use Rattle.share_model.specs.declared.funding.Holder.TheVariants.{Nobody, Currency, Flow}
 use Rattle.share_model.specs.declared.funding.Ticket.{Ticket}
 use Rattle.share_model.specs.declared.funding.OpenFlow.{OpenFlow}
-use Rattle.share_model.specs.funding.Graph.{NameBytes, base, Graph, is_held_by_currency, is_held_by_flow, funding}
+use Rattle.share_model.specs.funding.Graph.{NameBytes, base, Graph, holder_is_currency, holder_is_flow, funding}
 use Rattle.share_model.specs.funding.Graph.{denominated_in, backing, is_active_flow, is_active_holder, act, is_active}
 use Rattle.share_model.specs.funding.Graph.{active}
 use Rattle.share_model.specs.funding.Graph.{worth_by, val, worth}
 use Rattle.share_model.specs.lists.Each.{Each}
 use Rattle.share_model.proofs.lemmas.lists.FirstItemLemmas.{each_map}
-use Rattle.share_model.specs.funding.Kept.{names_of, times, times_open, IsHolderKnown, IsKept}
+use Rattle.share_model.specs.funding.WellFormed.{names_of, times, times_open, IsHolderKnown, IsWellFormed}
 use Rattle.share_model.proofs.lemmas.lists.SumLemmas.{sum_by-filter, sum_by-le_of, sum_by-same_of}
 use Rattle.share_model.proofs.lemmas.funding.ShareLemmas.{active_amount, active-is, active-within, worths-within}
 use Rattle.share_model.proofs.lemmas.funding.ShareLemmas.{vals-within}
@@ -59,7 +59,7 @@ module _ (g : Graph) where
   unfolding routes_of
   sum-routes F b = grind (arith, nat_tests, sum_by-map, sum_by-filter)
 
-  pub below : IsKept g → (c : NameBytes) → 1 ≤ times c (names_of g) → place (names_of g) c < 65
+  pub below : IsWellFormed g → (c : NameBytes) → 1 ≤ times c (names_of g) → place (names_of g) c < 65
   below ok c known = let under = place-below c (names_of g) known in let few = ok.few_currencies in omega arith
 
 -- the active places by the routes, by the places of holders
@@ -68,7 +68,7 @@ lead g held Nobody = false
 lead g held (Currency d) = held (place (names_of g) d)
 lead g held (Flow f) = is_active_flow g f
 
-module _ (g : Graph) (ok : IsKept g) (lit held : ℕ → Bool)
+module _ (g : Graph) (ok : IsWellFormed g) (lit held : ℕ → Bool)
     (flows : (f : ℕ) → 1 ≤ times_open f g.flows → lit (flow_place g.flows f) ≡ is_active_flow g f) where
   pub weight_from-is : (c : NameBytes) → 1 ≤ times c (names_of g)
       → weight_from (routes_of g true g.tickets) held (place (names_of g) c)
@@ -111,7 +111,7 @@ module _ (g : Graph) (ok : IsKept g) (lit held : ℕ → Bool)
           zero_add _ ∙ ap (λ a. cond (b && a) n 0) (flows f there) ∙ cond_and b (is_active_flow g f) n
 
 -- Anything that says which flows and currencies are active gives the amounts and the worths.
-module _ (g : Graph) (ok : IsKept g) (lit held : ℕ → Bool)
+module _ (g : Graph) (ok : IsWellFormed g) (lit held : ℕ → Bool)
     (flows : (f : ℕ) → 1 ≤ times_open f g.flows → lit (flow_place g.flows f) ≡ is_active_flow g f)
     (held-are : (c : NameBytes) → 1 ≤ times c (names_of g)
     → held (place (names_of g) c) ≡ list_any (act g 8) (denominated_in g.tickets c)) where
@@ -166,19 +166,19 @@ module _ (g : Graph) (ok : IsKept g) (lit held : ℕ → Bool)
         (λ (t : Ticket). cond (is_kind true t.holder)
         (cond (nat_eq (place (names_of g) c) (holder_place g t.holder) && held (holder_place g t.holder))
         (carried_by v whole (route_of g t)) 0) 0)
-        (λ (t : Ticket). cond (is_held_by_currency c t.holder) (worth_by g w t) 0) g.tickets (placed g ok)
+        (λ (t : Ticket). cond (holder_is_currency c t.holder) (worth_by g w t) 0) g.tickets (placed g ok)
         (λ t ok. ap
         (λ n. cond (is_kind true t.holder)
         (cond (nat_eq (place (names_of g) c) (holder_place g t.holder) && held (holder_place g t.holder)) n 0) 0)
         (carried_by-is v w value t ok)
         ∙ by (weight w t) t.holder ok.holder_known)
-        ∙ sym (sum_by-filter (worth_by g w) (λ (t : Ticket). is_held_by_currency c t.holder) g.tickets)
+        ∙ sym (sum_by-filter (worth_by g w) (λ (t : Ticket). holder_is_currency c t.holder) g.tickets)
       where
         by : (n : ℕ) (o : Holder) → IsHolderKnown g o
             → cond (is_kind true o) (cond (nat_eq (place (names_of g) c) (holder_place g o) && held (holder_place g
             o)) n 0)
             0
-            ≡ cond (is_held_by_currency c o) (cond (is_active_holder g (act g 8) o) n 0) 0
+            ≡ cond (holder_is_currency c o) (cond (is_active_holder g (act g 8) o) n 0) 0
         by n Nobody there = refl
         by n (Flow f) there = refl
         by n (Currency d) there =
@@ -206,19 +206,19 @@ module _ (g : Graph) (ok : IsKept g) (lit held : ℕ → Bool)
         (λ (t : Ticket). cond (is_kind false t.holder)
         (cond (nat_eq (flow_place g.flows f) (holder_place g t.holder) && lit (holder_place g t.holder))
         (carried_by v whole (route_of g t)) 0) 0)
-        (λ (t : Ticket). cond (is_held_by_flow f t.holder) (worth_by g (val g 9) t) 0) g.tickets (placed g ok)
+        (λ (t : Ticket). cond (holder_is_flow f t.holder) (worth_by g (val g 9) t) 0) g.tickets (placed g ok)
         (λ t ok. ap
         (λ n. cond (is_kind false t.holder)
         (cond (nat_eq (flow_place g.flows f) (holder_place g t.holder) && lit (holder_place g t.holder)) n 0) 0)
         (carried_by-is v (val g 9) value t ok)
         ∙ by (weight (val g 9) t) t.holder ok.holder_known)
-        ∙ sym (sum_by-filter (worth_by g (val g 9)) (λ (t : Ticket). is_held_by_flow f t.holder) g.tickets)
+        ∙ sym (sum_by-filter (worth_by g (val g 9)) (λ (t : Ticket). holder_is_flow f t.holder) g.tickets)
       where
         by : (n : ℕ) (o : Holder) → IsHolderKnown g o
             → cond (is_kind false o) (cond (nat_eq (flow_place g.flows f) (holder_place g o) && lit (holder_place g
             o)) n 0)
             0
-            ≡ cond (is_held_by_flow f o) (cond (is_active_holder g (act g 8) o) n 0) 0
+            ≡ cond (holder_is_flow f o) (cond (is_active_holder g (act g 8) o) n 0) 0
         by n Nobody there = refl
         by n (Currency d) there = refl
         by n (Flow k) there =

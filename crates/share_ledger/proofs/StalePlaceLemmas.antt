@@ -9,10 +9,10 @@ use Rattle.share_model.proofs.lemmas.funding.SettledGraphLemmas.{any_none}
 use Rattle.share_model.specs.lists.Each.{Each}
 use Rattle.share_model.proofs.lemmas.lists.FirstItemLemmas.{each_map}
 use Rattle.share_model.proofs.lemmas.lists.SumLemmas.{sum_by-same_of}
-use Rattle.share_ledger.specs.declared.net.Net.{Net}
+use Rattle.share_ledger.specs.declared.valuation.Valuation.{Valuation}
 use Rattle.share_ledger.specs.declared.routes.Route.{Route}
 use Rattle.share_ledger.specs.declared.funding_tickets.FundingTicket.{FundingTicket}
-use Rattle.share_ledger.specs.Nets.{HasInputs, IsReady}
+use Rattle.share_ledger.specs.Valuations.{HasInputs, IsReady}
 use Rattle.share_ledger.specs.Arrays.{flags_of, numbers_of}
 use Rattle.share_ledger.specs.FundingTickets.{IsFundingTicketWithin, funding_ticket_worth, funding_tickets_at, worth_at}
 use Rattle.share_ledger.specs.FundingTickets.{AreAwake, AreShared}
@@ -215,7 +215,7 @@ shared-still moved v w s u fs on old next f within still wrote were p lt =
         ∙ sym (ap (λ l. min (cond l (sum_by (funding_ticket_worth w u) (funding_tickets_at fs p)) 0) (2 ^ 20)) lit)
 
 -- the ready values followed from the weights that were seen
-pub ready-was : (n : Net) (tickets_of_all : List ℕ) (backs funds : List Route) (lit : ℕ → Bool) (c f : ℕ)
+pub ready-was : (n : Valuation) (tickets_of_all : List ℕ) (backs funds : List Route) (lit : ℕ → Bool) (c f : ℕ)
     → IsReady n tickets_of_all backs funds lit → WasCurrent n tickets_of_all c f
 ready-was n tickets_of_all backs funds lit c f ready = record {
   awake_was = λ p up lt. ready.awake_is p up lt ∙ ap (nat_lt 0) (sym (ready.seen_is p up lt));
@@ -235,7 +235,7 @@ ready-was n tickets_of_all backs funds lit c f ready = record {
 }
 
 -- and so did what is left of it
-module _ (old new : Net) (tickets_of_all : List ℕ) (c f : ℕ) (values : new.values ≡ old.values)
+module _ (old new : Valuation) (tickets_of_all : List ℕ) (c f : ℕ) (values : new.values ≡ old.values)
     (seen : new.seen ≡ old.seen)
     (was : WasCurrent old tickets_of_all 0 64) where
   none : (k p : ℕ) → p < k → nat_eq k p ≡ false
@@ -267,15 +267,16 @@ module _ (old new : Net) (tickets_of_all : List ℕ) (c f : ℕ) (values : new.v
       → WasCurrent new tickets_of_all c f
   left-was awake backing funding active = grind (arith, nat_tests, nought, worth-left, none)
 
--- the same of a net that is the other but for the weights and the funding tickets of one holder
-pub lefts-was : (old new : Net) (tickets_of_all : List ℕ) (c f : ℕ) → WasCurrent old tickets_of_all 0 64
+-- the same of a valuation that is the other but for the weights and the funding tickets of one holder
+pub lefts-was : (old new : Valuation) (tickets_of_all : List ℕ) (c f : ℕ) → WasCurrent old tickets_of_all 0 64
     → IsLeft old new c f
     → WasCurrent new tickets_of_all c f
 lefts-was old new tickets_of_all c f was left = grind (arith, nat_tests)
 
 -- Take a change in which no weight but that of `base` changed, and nothing active rests on the currency whose funding
 -- tickets may be others. Then only the flow's own tickets may be others
-pub quiet-computed : (n : Net) (tickets_of_all next : List ℕ) (backs funds : List Route) (lit : ℕ → Bool) (c f : ℕ)
+pub quiet-computed : (n : Valuation) (tickets_of_all next : List ℕ) (backs funds : List Route)
+    (lit : ℕ → Bool) (c f : ℕ)
     → HasInputs n backs funds lit → WasCurrent n tickets_of_all c f
     → ((p : ℕ) → 0 < p → p < 65 → numbers_of n.weights.value p ≡ numbers_of n.seen.value p)
     → (nat_eq c 0 || not (flags_of n.awake.value c)) ≡ true
@@ -330,7 +331,8 @@ quiet-computed n tickets_of_all next backs funds lit c f begun was same asleep w
         (numbers_of n.weights.value) p (begun.funding.within p (omega arith)) same)
 
 -- a flow that wakes or rests leaves the funding tickets and the values
-module _ (old new : Net) (tickets_of_all : List ℕ) (backs funds : List Route) (lit : ℕ → Bool) (place : ℕ) (b : Bool)
+module _ (old new : Valuation) (tickets_of_all : List ℕ) (backs funds : List Route)
+    (lit : ℕ → Bool) (place : ℕ) (b : Bool)
     (ready : IsReady old tickets_of_all backs funds (flags_of old.active.value)) (begun : HasInputs new backs funds lit)
     (left : (new.backing ≡ old.backing) × (new.funding ≡ old.funding) × (new.awake ≡ old.awake)
     × (new.values ≡ old.values) × (new.seen ≡ old.seen))

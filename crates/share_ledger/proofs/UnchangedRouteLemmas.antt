@@ -14,20 +14,20 @@ use Rattle.share_model.specs.declared.funding.Holder.TheVariants.{Nobody, Curren
 use Rattle.share_model.specs.declared.funding.Ticket.{Ticket}
 use Rattle.share_model.specs.declared.funding.OpenFlow.{OpenFlow}
 use Rattle.share_model.specs.funding.Graph.{NameBytes, Graph, tickets}
-use Rattle.share_model.specs.funding.Changes.{is_numbered, ticket_of, is_held, is_found_held, is_open_as}
+use Rattle.share_model.specs.funding.Changes.{is_numbered, ticket_of, has_holder, has_found_holder, is_open_as}
 use Rattle.share_model.specs.funding.Changes.{with_activity, make_currency, make_ticket, made_ticket}
 use Rattle.share_model.specs.funding.Changes.{remove_ticket_refusal, remove_ticket, add_flow, set_active}
 use Rattle.share_model.specs.funding.Changes.{with_amount, amend}
 use Rattle.share_model.specs.lists.Change.{change_first}
 use Rattle.share_model.specs.lists.Each.{Each}
-use Rattle.share_model.specs.funding.Kept.{names_of, times, times_open, IsHolderKnown, IsKept}
+use Rattle.share_model.specs.funding.WellFormed.{names_of, times, times_open, IsHolderKnown, IsWellFormed}
 use Rattle.share_model.proofs.lemmas.lists.SumLemmas.{name_sym}
 use Rattle.share_model.proofs.lemmas.funding.RefusalLemmas.{not-refused}
-use Rattle.share_model.proofs.lemmas.funding.HolderLemmas.{IsHeldAlike, alike-same, tickets-alike}
+use Rattle.share_model.proofs.lemmas.funding.HolderLemmas.{IsHolderAlike, alike-same, tickets-alike}
 use Rattle.share_ledger.specs.Places.{place}
 use Rattle.share_ledger.specs.Routes.{flow_place, holder_place, route_of, is_kind, routes_of}
-use Rattle.share_ledger.specs.declared.net.Net.{Net}
-use Rattle.share_ledger.specs.Nets.{IsReady, activity_of}
+use Rattle.share_ledger.specs.declared.valuation.Valuation.{Valuation}
+use Rattle.share_ledger.specs.Valuations.{IsReady, activity_of}
 use Rattle.share_ledger.specs.Arrays.{flags_of}
 use Rattle.share_ledger.specs.FundingTickets.{backs_of, funds_of}
 use Rattle.share_ledger.specs.Cache.{IsCurrent}
@@ -40,10 +40,11 @@ use Rattle.share_ledger.proofs.PlaceLemmas.{IsPlaced, placed}
 use Rattle.share_ledger.proofs.RouteListLemmas.{routes-cons, routes-append}
 
 -- the values that are kept of a graph fit another with the same routes and the same tickets of the same flows
-pub kept-left : (net : Net) (tickets_of_all : List ℕ) (g h : Graph)
+pub kept-left : (valuation : Valuation) (tickets_of_all : List ℕ) (g h : Graph)
     → ((b : Bool) → routes_of g b g.tickets ≡ routes_of h b h.tickets) → g.flows ≡ h.flows
-    → ((f : ℕ) → tickets g f ≡ tickets h f) → IsCurrent net tickets_of_all g → IsCurrent net tickets_of_all h
-kept-left net tickets_of_all g h routes flows same kept = grind (arith, nat_tests, tickets_of_all-left, relit)
+    → ((f : ℕ) → tickets g f ≡ tickets h f) → IsCurrent valuation tickets_of_all g
+    → IsCurrent valuation tickets_of_all h
+kept-left valuation tickets_of_all g h routes flows same kept = grind (arith, nat_tests, tickets_of_all-left, relit)
 
 -- routes of the same tickets
 pub routes-same : (g h : Graph) (b : Bool) (P : Ticket → Type 0) (ts : List Ticket) → Each P ts
@@ -75,7 +76,7 @@ flow-place-changed f a k [] = refl
 flow-place-changed f a k (e ∷ es) = grind (arith, nat_tests, flow-place-changed f a k es)
 
 -- Commands
-pub routes-make_currency : (g : Graph) → IsKept g → (c : NameBytes) (b : Bool)
+pub routes-make_currency : (g : Graph) → IsWellFormed g → (c : NameBytes) (b : Bool)
     → routes_of g b g.tickets ≡ routes_of (make_currency g c) b g.tickets
 routes-make_currency g ok c b =
     routes-same g (make_currency g c) b (IsPlaced g) g.tickets (placed g ok)
@@ -87,11 +88,11 @@ routes-make_currency g ok c b =
     spot (Currency d) known = place-append d (names_of g) (c ∷ []) known
     spot (Flow f) known = refl
 
-pub routes-add_flow : (g : Graph) → IsKept g → (name : NameBytes) (b : Bool)
+pub routes-add_flow : (g : Graph) → IsWellFormed g → (name : NameBytes) (b : Bool)
     → routes_of g b g.tickets ≡ routes_of (add_flow g name) b g.tickets
 routes-add_flow g ok name b = grind (arith, nat_tests, routes-same, IsPlaced, placed, route-same, flow-place-append)
 
-pub routes-set_active : (g : Graph) → IsKept g → (f : ℕ) (a b : Bool)
+pub routes-set_active : (g : Graph) → IsWellFormed g → (f : ℕ) (a b : Bool)
     → routes_of g b g.tickets ≡ routes_of (set_active g f a) b g.tickets
 routes-set_active g ok f a b = grind (arith, nat_tests, routes-same, IsPlaced, placed, route-same, flow-place-changed)
 
@@ -106,21 +107,21 @@ pub routes-remove_ticket : (g : Graph) (n : ℕ) → remove_ticket_refusal g n �
 unfolding routes_of
 routes-remove_ticket g n none b =
     let one = not-refused (not (is_some (ticket_of g n))) NoTicket _ none in
-    let two = not-refused (is_found_held (ticket_of g n)) Funding _ one.1 in
+    let two = not-refused (has_found_holder (ticket_of g n)) Funding _ one.1 in
     removed (is_numbered n) g.tickets two.0
   where
-    unheld : (h : Holder) → is_held h ≡ false → is_kind b h ≡ false
+    unheld : (h : Holder) → has_holder h ≡ false → is_kind b h ≡ false
     unheld Nobody e = refl
     unheld (Currency d) e = absurd cc
     unheld (Flow f) e = absurd cc
 
-    removed : (p : Ticket → Bool) (ts : List Ticket) → is_found_held (find p ts) ≡ false
+    removed : (p : Ticket → Bool) (ts : List Ticket) → has_found_holder (find p ts) ≡ false
         → routes_of g b ts ≡ routes_of g b (remove_key p ts)
     removed p [] e = refl
     removed p (t ∷ ts) e = by (p t) e (removed p ts)
       where
-        by : (k : Bool) → is_found_held (cond k (Some t) (find p ts)) ≡ false
-            → (is_found_held (find p ts) ≡ false → routes_of g b ts ≡ routes_of g b (remove_key p ts))
+        by : (k : Bool) → has_found_holder (cond k (Some t) (find p ts)) ≡ false
+            → (has_found_holder (find p ts) ≡ false → routes_of g b ts ≡ routes_of g b (remove_key p ts))
             → routes_of g b (t ∷ ts) ≡ routes_of g b (cond k ts (t ∷ remove_key p ts))
         by true e rest =
             routes-cons g b t ts
@@ -130,23 +131,23 @@ routes-remove_ticket g n none b =
             ∙ sym (routes-cons g b t (remove_key p ts))
 
 -- A ticket without a holder that gets another amount
-pub routes-amend : (g : Graph) (n amount : ℕ) → is_found_held (ticket_of g n) ≡ false → (b : Bool)
+pub routes-amend : (g : Graph) (n amount : ℕ) → has_found_holder (ticket_of g n) ≡ false → (b : Bool)
     → routes_of g b g.tickets ≡ routes_of (amend g n amount) b (amend g n amount).tickets
 unfolding routes_of change_first
 routes-amend g n amount unheld b = amended (is_numbered n) g.tickets unheld
   where
-    none : (h : Holder) → is_held h ≡ false → is_kind b h ≡ false
+    none : (h : Holder) → has_holder h ≡ false → is_kind b h ≡ false
     none Nobody e = refl
     none (Currency d) e = absurd cc
     none (Flow f) e = absurd cc
 
-    amended : (p : Ticket → Bool) (ts : List Ticket) → is_found_held (find p ts) ≡ false
+    amended : (p : Ticket → Bool) (ts : List Ticket) → has_found_holder (find p ts) ≡ false
         → routes_of g b ts ≡ routes_of g b (change_first p (with_amount amount) ts)
     amended p [] e = refl
     amended p (t ∷ ts) e = by (p t) e (amended p ts)
       where
-        by : (k : Bool) → is_found_held (cond k (Some t) (find p ts)) ≡ false
-            → (is_found_held (find p ts) ≡ false
+        by : (k : Bool) → has_found_holder (cond k (Some t) (find p ts)) ≡ false
+            → (has_found_holder (find p ts) ≡ false
             → routes_of g b ts ≡ routes_of g b (change_first p (with_amount amount) ts))
             → routes_of g b (t ∷ ts)
             ≡ routes_of g b (cond k (with_amount amount t ∷ ts) (t ∷ change_first p (with_amount amount) ts))
@@ -159,15 +160,15 @@ routes-amend g n amount unheld b = amended (is_numbered n) g.tickets unheld
             routes-cons g b t ts ∙ ap (λ rs. cond (is_kind b t.holder) (route_of g t ∷ []) [] ++ rs) (rest e)
             ∙ sym (routes-cons g b t (change_first p (with_amount amount) ts))
 
-alike-amended : (p : Ticket → Bool) (amount : ℕ) (ts : List Ticket) → is_found_held (find p ts) ≡ false
-    → IsHeldAlike ts (change_first p (with_amount amount) ts)
+alike-amended : (p : Ticket → Bool) (amount : ℕ) (ts : List Ticket) → has_found_holder (find p ts) ≡ false
+    → IsHolderAlike ts (change_first p (with_amount amount) ts)
 unfolding change_first
 alike-amended p amount [] e = alike-same []
 alike-amended p amount (t ∷ ts) e = by (p t) e (alike-amended p amount ts)
   where
-    by : (k : Bool) → is_found_held (cond k (Some t) (find p ts)) ≡ false
-        → (is_found_held (find p ts) ≡ false → IsHeldAlike ts (change_first p (with_amount amount) ts))
-        → IsHeldAlike (t ∷ ts) (cond k (with_amount amount t ∷ ts) (t ∷ change_first p (with_amount amount) ts))
+    by : (k : Bool) → has_found_holder (cond k (Some t) (find p ts)) ≡ false
+        → (has_found_holder (find p ts) ≡ false → IsHolderAlike ts (change_first p (with_amount amount) ts))
+        → IsHolderAlike (t ∷ ts) (cond k (with_amount amount t ∷ ts) (t ∷ change_first p (with_amount amount) ts))
     by true e rest = record {
       any = λ q none. ap (λ b. b || list_any q ts) (none t e ∙ sym (none (with_amount amount t) e));
       sum = λ w none.
@@ -181,11 +182,13 @@ alike-amended p amount (t ∷ ts) e = by (p t) e (alike-amended p amount ts)
           ∙ sym (sum_by-cons w t (change_first p (with_amount amount) ts));
     }
 
-pub kept-amended : (net : Net) (tickets_of_all : List ℕ) (g h : Graph) (n amount : ℕ) → h ≡ amend g n amount
-    → is_found_held (ticket_of g n) ≡ false → IsCurrent net tickets_of_all g → IsCurrent net tickets_of_all h
-kept-amended net tickets_of_all g h n amount e unheld kept =
-    subst (IsCurrent net tickets_of_all) (sym e)
-    (kept-left net tickets_of_all g (amend g n amount) (routes-amend g n amount unheld) refl
+pub well_formed-amended : (valuation : Valuation) (tickets_of_all : List ℕ) (g h : Graph) (n amount : ℕ)
+    → h ≡ amend g n amount
+    → has_found_holder (ticket_of g n) ≡ false → IsCurrent valuation tickets_of_all g
+    → IsCurrent valuation tickets_of_all h
+well_formed-amended valuation tickets_of_all g h n amount e unheld kept =
+    subst (IsCurrent valuation tickets_of_all) (sym e)
+    (kept-left valuation tickets_of_all g (amend g n amount) (routes-amend g n amount unheld) refl
     (tickets-alike g (amend g n amount) (alike-amended (is_numbered n) amount g.tickets unheld) (λ f. refl)) kept)
 
 -- one more flow is open, and not active
@@ -198,27 +201,28 @@ activity-opened [] name f (suc k) = refl
 activity-opened (e ∷ es) name f zero = refl
 activity-opened (e ∷ es) name f (suc k) = activity-opened es name f k
 
-pub kept-opened : (net : Net) (before after : List ℕ) (g : Graph) (name : NameBytes) (n : ℕ)
-    → IsKept g → n ≡ length g.flows
+pub well_formed-opened : (valuation : Valuation) (before after : List ℕ) (g : Graph) (name : NameBytes) (n : ℕ)
+    → IsWellFormed g → n ≡ length g.flows
     → ((k : ℕ) → get_or after k 0 ≡ cond (nat_eq n k) 0 (get_or before k 0))
-    → take (n + 1) after ≡ take n before ++ 0 ∷ [] → IsCurrent net before g
-    → IsCurrent net after (add_flow g name)
-kept-opened net before after g name n ok at wrote more kept = record {
+    → take (n + 1) after ≡ take n before ++ 0 ∷ [] → IsCurrent valuation before g
+    → IsCurrent valuation after (add_flow g name)
+well_formed-opened valuation before after g name n ok at wrote more kept = record {
   of_flows = tickets_of_all-opened before after g name n ok at more kept.of_flows;
-  net_ready = relit net after (backs_of (add_flow g name)) (funds_of (add_flow g name)) (activity_of g)
+  valuation_ready = relit valuation after (backs_of (add_flow g name)) (funds_of (add_flow g name)) (activity_of g)
       (activity_of (add_flow g name))
-      (subst (λ rs. IsReady net after (backs_of (add_flow g name)) rs (activity_of g)) (routes-add_flow g ok name false)
-      (subst (λ rs. IsReady net after rs (funds_of g) (activity_of g)) (routes-add_flow g ok name true)
-      (opened (kept.net_ready))))
+      (subst (λ rs. IsReady valuation after (backs_of (add_flow g name)) rs (activity_of g))
+      (routes-add_flow g ok name false)
+      (subst (λ rs. IsReady valuation after rs (funds_of g) (activity_of g)) (routes-add_flow g ok name true)
+      (opened (kept.valuation_ready))))
       (activity-opened g.flows name g.next_flow);
 }
   where
-    opened : IsReady net before (backs_of g) (funds_of g) (activity_of g)
-        → IsReady net after (backs_of g) (funds_of g) (activity_of g)
+    opened : IsReady valuation before (backs_of g) (funds_of g) (activity_of g)
+        → IsReady valuation after (backs_of g) (funds_of g) (activity_of g)
     opened ready = grind (arith, nat_tests, activity-beyond, eqb-true)
 
 -- A flow that becomes active or idle leaves the routes
-module _ (g : Graph) (ok : IsKept g) (net : Net) (tickets_of_all : List ℕ) (f : ℕ) (a : Bool) (i : ℕ)
+module _ (g : Graph) (ok : IsWellFormed g) (valuation : Valuation) (tickets_of_all : List ℕ) (f : ℕ) (a : Bool) (i : ℕ)
     (found : position (λ (o : OpenFlow). nat_eq f o.number) (map (λ (e : NameBytes × OpenFlow). e.1) g.flows) ≡ Some i)
   where
     pub turned-below : i < 64
@@ -226,13 +230,13 @@ module _ (g : Graph) (ok : IsKept g) (net : Net) (tickets_of_all : List ℕ) (f 
         let inside = first-below (is_open_as f) g.flows i (flow-first f g.flows i (position-first _ _ i found)) in
         let few = ok.few_flows in omega arith
 
-    pub turned-ready : IsReady net tickets_of_all (backs_of g) (funds_of g) (activity_of g)
-        → IsReady net tickets_of_all (backs_of (set_active g f a)) (funds_of (set_active g f a))
-        (flags_of net.active.value)
+    pub turned-ready : IsReady valuation tickets_of_all (backs_of g) (funds_of g) (activity_of g)
+        → IsReady valuation tickets_of_all (backs_of (set_active g f a)) (funds_of (set_active g f a))
+        (flags_of valuation.active.value)
     turned-ready ready = grind (arith, nat_tests, relit, routes-set_active)
 
-    pub turned-activity : IsReady net tickets_of_all (backs_of g) (funds_of g) (activity_of g) → (k : ℕ)
-        → activity_of (set_active g f a) k ≡ cond (nat_eq i k) a (flags_of net.active.value k)
+    pub turned-activity : IsReady valuation tickets_of_all (backs_of g) (funds_of g) (activity_of g) → (k : ℕ)
+        → activity_of (set_active g f a) k ≡ cond (nat_eq i k) a (flags_of valuation.active.value k)
     turned-activity ready k =
         activity-turned f a g.flows i k (flow-first f g.flows i (position-first _ _ i found))
         ∙ ap (cond (nat_eq i k) a) (sym (ready.begun.active_is k))

@@ -8,7 +8,7 @@ use Rattle.std.proofs.lemmas.Grind.{get_or-set_at}
 use Rattle.std.proofs.lemmas.List.Sums.{sum_by-cons}
 use Rattle.std.proofs.lemmas.Bool.{eqb-true}
 use Rattle.share_model.specs.funding.Graph.{Graph}
-use Rattle.share_model.specs.funding.Kept.{IsKept}
+use Rattle.share_model.specs.funding.WellFormed.{IsWellFormed}
 use Rattle.share_model.specs.lists.Each.{Each}
 use Rattle.share_ledger.specs.declared.routes.Route.{Route}
 use Rattle.share_ledger.specs.declared.funding_tickets.FundingTicket.{FundingTicket}
@@ -74,7 +74,7 @@ pub rests : (on less : ℕ → Bool) (p : ℕ) → on p ≡ true → ((k : ℕ) 
 rests on less p lit off k = let here = off k in grind (arith, nat_tests)
 
 -- weights are small
-pub counted-bound : (g : Graph) (awake active : ℕ → Bool) (whole : ℕ → ℕ) → IsKept g
+pub counted-bound : (g : Graph) (awake active : ℕ → Bool) (whole : ℕ → ℕ) → IsWellFormed g
     → AreCounted (backs_of g) (funds_of g) awake active whole → (p : ℕ) → p < 65 → whole p ≤ 2 ^ 31
 counted-bound g awake active whole ok counted p lt =
     let one = weight_from-bound (backs_of g) awake p (done-within g ok true (backs_of g) refl)

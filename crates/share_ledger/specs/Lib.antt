@@ -3,7 +3,7 @@ pub mod Bounds
 pub mod Cache
 pub mod Chains
 pub mod FundingTickets
-pub mod Nets
+pub mod Valuations
 pub mod Numbers
 pub mod Places
 pub mod Ranks

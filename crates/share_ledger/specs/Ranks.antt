@@ -4,7 +4,7 @@ use Rattle.std.specs.Prelude.{length, nat_lt, sum_by, if◌then◌else◌}
 use Rattle.std.specs.List.{list_any}
 use Rattle.share_model.specs.funding.Graph.{Graph}
 use Rattle.share_model.specs.lists.Each.{Each}
-use Rattle.share_ledger.specs.declared.net.Net.{Net}
+use Rattle.share_ledger.specs.declared.valuation.Valuation.{Valuation}
 use Rattle.share_ledger.specs.declared.ranks.Edge.{Edge}
 use Rattle.share_ledger.specs.declared.ranks.Ranking.{Ranking}
 use Rattle.share_ledger.specs.declared.funding_tickets.FundingTicket.{FundingTicket}
@@ -79,7 +79,7 @@ abbrev pub IsRankedBelow : List (List FundingTicket) → ℕ → ℕ → Type 0
 IsRankedBelow ss from to = (rank : ℕ → ℕ) × (AreRanks ss rank × (rank from < rank to))
 
 -- the funding tickets are those of the currencies of a graph, and have these ranks, in this order
-pub record AreBacking (g : Graph) (n : Net) : Type 0 where
+pub record AreBacking (g : Graph) (n : Valuation) : Type 0 where
   pub ticketed : AreTicketed (backs_of g) n.backing.items
   pub ranked : AreRanks n.backing.items (numbers_of n.ranks.value)
   pub listed : AreListed (numbers_of n.ranks.value) (numbers_of n.order.value)

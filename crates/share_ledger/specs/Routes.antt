@@ -9,8 +9,8 @@ use Rattle.share_model.specs.declared.funding.Holder.TheVariants.{Nobody, Curren
 use Rattle.share_model.specs.declared.funding.Ticket.{Ticket}
 use Rattle.share_model.specs.declared.funding.OpenFlow.{OpenFlow}
 use Rattle.share_model.specs.funding.Graph.{NameBytes, Graph}
-use Rattle.share_model.specs.funding.Changes.{ticket_of, is_held}
-use Rattle.share_model.specs.funding.Kept.{names_of}
+use Rattle.share_model.specs.funding.Changes.{ticket_of, has_holder}
+use Rattle.share_model.specs.funding.WellFormed.{names_of}
 
 -- the place of the flow of a number, or the number of flows if there is none
 unfoldable pub flow_place : List (NameBytes × OpenFlow) → ℕ → ℕ
@@ -46,7 +46,7 @@ routes_of g backing ts = map (route_of g) (filter (λ t. is_kind backing t.holde
 
 -- the route of the ticket of a number, which has a holder, and whether the holder is a currency
 abbrev pub IsRouted : Graph → ℕ → Route → Bool → Type 0
-IsRouted g n r backing = (t : Ticket) × ((ticket_of g n ≡ Some t) × (r ≡ route_of g t) × (is_held t.holder ≡ true)
+IsRouted g n r backing = (t : Ticket) × ((ticket_of g n ≡ Some t) × (r ≡ route_of g t) × (has_holder t.holder ≡ true)
     × (backing ≡ is_kind true t.holder))
 
 -- there are 65 places of currencies, and 64 of flows

@@ -3,7 +3,7 @@
 use Rattle.std.specs.Prelude.{◌≡◌, ◌<◌, ◌≤◌, ◌^◌, ◌%◌, ℕ, Bool, true, false, not, ◌&&◌, ◌||◌, List, min, nat_eq, nat_lt}
 use Rattle.std.specs.Int.{bit_at}
 use Rattle.std.specs.List.{list_any}
-use Rattle.share_ledger.specs.declared.net.Net.{Net}
+use Rattle.share_ledger.specs.declared.valuation.Valuation.{Valuation}
 use Rattle.share_ledger.specs.declared.funding_tickets.FundingTicket.{FundingTicket}
 use Rattle.share_ledger.specs.declared.stale.Moved.{Moved}
 use Rattle.share_ledger.specs.Arrays.{flags_of, numbers_of}
@@ -42,7 +42,7 @@ AreMoved moved old new seen whole = (p : ℕ) → 0 < p → p < 65 → moved p �
 
 -- All is as it follows from the weights seen last, but for one currency and one flow. If that currency is not awake, it
 -- has no value.
-pub record WasCurrent (n : Net) (tickets_of_all : List ℕ) (currency flow : ℕ) : Type 0 where
+pub record WasCurrent (n : Valuation) (tickets_of_all : List ℕ) (currency flow : ℕ) : Type 0 where
   pub awake_was : (p : ℕ) → 0 < p → p < 65 → flags_of n.awake.value p ≡ nat_lt 0 (numbers_of n.seen.value p)
   pub valued : WereValued n.backing.items (numbers_of n.values.value) (numbers_of n.seen.value) currency
   pub asleep : 0 < currency → currency < 65 → flags_of n.awake.value currency ≡ false
@@ -53,7 +53,7 @@ pub record WasCurrent (n : Net) (tickets_of_all : List ℕ) (currency flow : ℕ
       (2 ^ 20)
 
 -- The nets are the same but for the weights, and for the funding tickets of one currency and of one flow.
-pub record IsLeft (old new : Net) (currency flow : ℕ) : Type 0 where
+pub record IsLeft (old new : Valuation) (currency flow : ℕ) : Type 0 where
   pub backing : (k : ℕ) → nat_eq currency k ≡ false → funding_tickets_at new.backing.items k
       ≡ funding_tickets_at old.backing.items k
   pub funding : (k : ℕ) → nat_eq flow k ≡ false → funding_tickets_at new.funding.items k

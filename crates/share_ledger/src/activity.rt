@@ -1,4 +1,4 @@
-//! Changes of the net: a flow wakes or rests, a funding ticket comes or goes, or all is computed from scratch.
+//! Changes of the valuation: a flow wakes or rests, a funding ticket comes or goes, or all is computed from scratch.
 ghost use Rattle.share_ledger.specs.declared.funding_tickets.FundingTicket.{FundingTicket};
 ghost use Rattle.std.specs.Prelude.{◌≡◌, ℕ, sum_by, ◌+◌, ◌<◌, ◌++◌, ◌∷◌, [], length, true, false, not, nat_eq, IfOk};
 ghost use Rattle.std.specs.Prelude.{◌^◌, min, slice_set, if◌then◌else◌};
@@ -10,13 +10,13 @@ ghost use Rattle.share_ledger.specs.Routes.{IsRouteWithin};
 ghost use Rattle.share_ledger.specs.FundingTickets.{funding_tickets_at, funding_ticket_of, is_like, AreTicketed};
 ghost use Rattle.share_ledger.specs.FundingTickets.{AreCounted, backs_of, funds_of};
 ghost use Rattle.share_ledger.specs.FundingTickets.{IsFundingTicketWithin, AreSmall, worth_at};
-ghost use Rattle.share_ledger.specs.Nets.{activity_of, HasInputs};
+ghost use Rattle.share_ledger.specs.Valuations.{activity_of, HasInputs};
 
 use crate::funding_tickets::{FundingTicket, FundingTickets, funding_tickets_at};
-use crate::net::{self, Net};
 use crate::ranks;
 use crate::routes::Route;
 use crate::tables::{MAX_FLOWS, PLACES, Tables};
+use crate::valuation::{self, Valuation};
 use std::alloc::{AllocError, Global};
 
 // The holders of all places, without funding tickets.
@@ -135,10 +135,10 @@ fn wake_all(
         (flags_of active.new) (numbers_of weights.new) }
     ensures active { (k : ℕ) → flags_of active.new k ≡ activity_of tables.now k }
 {
-    tables.is_kept();
+    tables.is_well_formed();
     for place in 0..tables.flow_count() {
         if tables.is_active_at(place) {
-            net::wake(tables, funding, awake, place, active, weights);
+            valuation::wake(tables, funding, awake, place, active, weights);
         }
     }
 }
@@ -164,11 +164,11 @@ fn rouse(
     wake_all(tables, funding, awake, active, weights);
 }
 
-impl Net {
-    pub(crate) fn new(alloc: Global) -> Result<Net, AllocError>
+impl Valuation {
+    pub(crate) fn new(alloc: Global) -> Result<Valuation, AllocError>
         ensures { IfOk result (λ n. (length n.backing.items ≡ 65) × (length n.funding.items ≡ 65)) }
     {
-        Ok(Net {
+        Ok(Valuation {
             backing: holders(alloc)?,
             funding: holders(alloc)?,
             active: Box::new(alloc, [false; PLACES])?,
@@ -198,7 +198,7 @@ impl Net {
             → numbers_of self.new.weights.value k ≡ numbers_of self.old.weights.value k }
     {
         if active {
-            net::wake(
+            valuation::wake(
                 tables,
                 &self.funding,
                 &self.awake,
@@ -208,7 +208,7 @@ impl Net {
             );
             return;
         }
-        net::rest(
+        valuation::rest(
             tables,
             &self.funding,
             &self.awake,
@@ -224,7 +224,7 @@ impl Net {
         requires places { length self.now.funding.items ≡ 65 }
         ensures { result ≡ list_all (λ s. nat_eq s.from 0) (funding_tickets_at self.now.funding.items place) }
     {
-        net::are_of_base(funding_tickets_at(&self.funding, place))
+        valuation::are_of_base(funding_tickets_at(&self.funding, place))
     }
 
     /// Computes the tickets of the flow at a place.
@@ -238,7 +238,7 @@ impl Net {
             (numbers_of self.now.values.value) (numbers_of self.now.weights.value) place) (2 ^ 20)) }
         ensures long { (length tickets_of_all.old ≡ 64) × (length tickets_of_all.new ≡ 64) }
     {
-        tickets_of_all[place] = net::share_at(
+        tickets_of_all[place] = valuation::share_at(
             &self.funding,
             &self.active,
             &self.weights,
@@ -254,7 +254,7 @@ impl Net {
         requires places { (length self.old.backing.items ≡ 65) × (length self.old.funding.items ≡ 65) }
         ensures { HasInputs self.new (backs_of tables.now) (funds_of tables.now) (activity_of tables.now) }
     {
-        tables.is_kept();
+        tables.is_well_formed();
         fill(backs, &mut self.backing);
         fill(funds, &mut self.funding);
         ranks::list_all(tables, &self.backing, &mut self.ranks, &mut self.order);

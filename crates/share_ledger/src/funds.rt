@@ -1,4 +1,4 @@
-//! The effects of commands on the net: a ticket begins or ceases to fund, or gets another amount.
+//! The effects of commands on the valuation: a ticket begins or ceases to fund, or gets another amount.
 ghost use Rattle.std.specs.Prelude.{◌≡◌, ◌<◌, ◌≤◌, ◌^◌, ℕ, Bool, length, true, false};
 ghost use Rattle.std.specs.Prelude.{take, if◌then◌else◌};
 ghost use Rattle.share_model.specs.lists.Each.{Each};
@@ -7,17 +7,17 @@ ghost use Rattle.share_ledger.specs.Ranks.{AreRanks, AreListed, IsRankedBelow, i
 ghost use Rattle.share_ledger.specs.Arrays.{numbers_of};
 ghost use Rattle.share_ledger.specs.Routes.{IsRouteWithin};
 ghost use Rattle.share_ledger.specs.FundingTickets.{IsFundingTicketWithin, funding_tickets_at, backs_of, funds_of};
-ghost use Rattle.share_ledger.specs.Nets.{activity_of, ComesToFund, CeasesToFund, GetsAmount, HasInputs};
+ghost use Rattle.share_ledger.specs.Valuations.{activity_of, ComesToFund, CeasesToFund, GetsAmount, HasInputs};
 ghost use Rattle.share_ledger.specs.Stale.{IsLeft};
 
 use crate::activity::{add_funding_ticket, amount_if, remove_funding_ticket};
-use crate::net::{self, Net};
 use crate::ranks::Edge;
 use crate::routes::Route;
 use crate::tables::Tables;
+use crate::valuation::{self, Valuation};
 use crate::{chains, ranks};
 
-impl Net {
+impl Valuation {
     /// Whether all currencies have ranks if a ticket of the currency at `from` also backs that at `to`. If so, no chain
     /// is too long or leads back. Mostly the kept ranks show it.
     pub(crate) fn has_ranks(&self, from: usize, to: usize) -> bool
@@ -57,7 +57,7 @@ impl Net {
         ensures begun { HasInputs self.new (backs_of tables.now) (funds_of tables.now) (activity_of tables.now) }
         ensures left { IsLeft self.old self.new route.now.to 64 }
     {
-        tables.is_kept();
+        tables.is_well_formed();
         add_funding_ticket(route, &mut self.backing);
         ranks::renew(
             tables,
@@ -70,7 +70,7 @@ impl Net {
             &mut self.order,
         );
         let amount = amount_if(self.awake[route.to], route.amount);
-        net::add_one(&mut self.weights, route.from, amount);
+        valuation::add_one(&mut self.weights, route.from, amount);
     }
 
     // Adds a ticket that funds a flow.
@@ -80,10 +80,10 @@ impl Net {
         ensures begun { HasInputs self.new (backs_of tables.now) (funds_of tables.now) (activity_of tables.now) }
         ensures left { IsLeft self.old self.new 0 route.now.to }
     {
-        tables.is_kept();
+        tables.is_well_formed();
         add_funding_ticket(route, &mut self.funding);
         let amount = amount_if(self.active[route.to], route.amount);
-        net::add_one(&mut self.weights, route.from, amount);
+        valuation::add_one(&mut self.weights, route.from, amount);
     }
 
     // Takes out a ticket that backed a currency.
@@ -93,10 +93,10 @@ impl Net {
         ensures begun { HasInputs self.new (backs_of tables.now) (funds_of tables.now) (activity_of tables.now) }
         ensures left { IsLeft self.old self.new route.now.to 64 }
     {
-        tables.is_kept();
+        tables.is_well_formed();
         remove_funding_ticket(route, &mut self.backing);
         let amount = amount_if(self.awake[route.to], route.amount);
-        net::subtract_one(&mut self.weights, route.from, amount);
+        valuation::subtract_one(&mut self.weights, route.from, amount);
     }
 
     // Takes out a ticket that funded a flow.
@@ -106,10 +106,10 @@ impl Net {
         ensures begun { HasInputs self.new (backs_of tables.now) (funds_of tables.now) (activity_of tables.now) }
         ensures left { IsLeft self.old self.new 0 route.now.to }
     {
-        tables.is_kept();
+        tables.is_well_formed();
         remove_funding_ticket(route, &mut self.funding);
         let amount = amount_if(self.active[route.to], route.amount);
-        net::subtract_one(&mut self.weights, route.from, amount);
+        valuation::subtract_one(&mut self.weights, route.from, amount);
     }
 
     /// Adds a ticket that backs a currency or funds a flow.
@@ -149,14 +149,14 @@ impl Net {
         ensures begun { HasInputs self.new (backs_of tables.now) (funds_of tables.now) (activity_of tables.now) }
         ensures left { IsLeft self.old self.new route.now.to 64 }
     {
-        tables.is_kept();
+        tables.is_well_formed();
         let amended = Route { amount, ..*route };
         remove_funding_ticket(route, &mut self.backing);
         add_funding_ticket(&amended, &mut self.backing);
         let before = amount_if(self.awake[route.to], route.amount);
         let after = amount_if(self.awake[route.to], amount);
-        net::subtract_one(&mut self.weights, route.from, before);
-        net::add_one(&mut self.weights, route.from, after);
+        valuation::subtract_one(&mut self.weights, route.from, before);
+        valuation::add_one(&mut self.weights, route.from, after);
     }
 
     // Changes the amount of a ticket that funds a flow.
@@ -167,14 +167,14 @@ impl Net {
         ensures begun { HasInputs self.new (backs_of tables.now) (funds_of tables.now) (activity_of tables.now) }
         ensures left { IsLeft self.old self.new 0 route.now.to }
     {
-        tables.is_kept();
+        tables.is_well_formed();
         let amended = Route { amount, ..*route };
         remove_funding_ticket(route, &mut self.funding);
         add_funding_ticket(&amended, &mut self.funding);
         let before = amount_if(self.active[route.to], route.amount);
         let after = amount_if(self.active[route.to], amount);
-        net::subtract_one(&mut self.weights, route.from, before);
-        net::add_one(&mut self.weights, route.from, after);
+        valuation::subtract_one(&mut self.weights, route.from, before);
+        valuation::add_one(&mut self.weights, route.from, after);
     }
 
     /// Changes the amount of a ticket that backs a currency or funds a flow. No rank changes.

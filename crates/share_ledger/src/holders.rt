@@ -1,15 +1,15 @@
 //! Tests of a holder.
 ghost use Rattle.std.specs.Prelude.{◌≡◌};
-ghost use Rattle.share_model.specs.funding.Graph.{is_held_by_currency, is_held_by_flow};
-ghost use Rattle.share_model.specs.funding.Changes.{is_held};
+ghost use Rattle.share_model.specs.funding.Graph.{holder_is_currency, holder_is_flow};
+ghost use Rattle.share_model.specs.funding.Changes.{has_holder};
 ghost use Rattle.share_ledger.specs.Routes.{is_kind};
 
 use share_base::{FlowNo, Name};
 use share_model::Holder;
 
 /// Whether there is a holder.
-pub(crate) fn is_held(holder: &Holder) -> bool
-    ensures { result ≡ is_held holder.now }
+pub(crate) fn has_holder(holder: &Holder) -> bool
+    ensures { result ≡ has_holder holder.now }
 {
     match holder {
         Holder::Nobody => false,
@@ -20,7 +20,7 @@ pub(crate) fn is_held(holder: &Holder) -> bool
 
 /// Whether the holder is this currency.
 pub(crate) fn is_currency(holder: &Holder, name: Name) -> bool
-    ensures { result ≡ is_held_by_currency name holder.now }
+    ensures { result ≡ holder_is_currency name holder.now }
 {
     match holder {
         Holder::Nobody => false,
@@ -31,7 +31,7 @@ pub(crate) fn is_currency(holder: &Holder, name: Name) -> bool
 
 /// Whether the holder is this flow.
 pub(crate) fn is_flow(holder: &Holder, flow: FlowNo) -> bool
-    ensures { result ≡ is_held_by_flow flow holder.now }
+    ensures { result ≡ holder_is_flow flow holder.now }
 {
     match holder {
         Holder::Nobody => false,

@@ -44,7 +44,7 @@ impl Model for Ledger {
     ghost view = { λ l. l.tables };
 
     ghost invariant = { λ l.
-        IsCurrent l.cache.net l.cache.tickets_of_all.value l.tables };
+        IsCurrent l.cache.valuation l.cache.tickets_of_all.value l.tables };
 }
 
 impl Ledger {
@@ -67,7 +67,7 @@ impl Ledger {
         ensures refused { IfErr result
             (λ e. IsRefused (make_currency_refusal self.old name) e × (self.new ≡ self.old)) }
     {
-        self.tables.is_kept();
+        self.tables.is_well_formed();
         self.tables.make_currency(name)
     }
 
@@ -79,7 +79,7 @@ impl Ledger {
         ensures refused { IfErr result
             (λ e. (remove_currency_refusal self.old name ≡ Some e) × (self.new ≡ self.old)) }
     {
-        self.tables.is_kept();
+        self.tables.is_well_formed();
         let place = self.tables.place_made(name);
         self.tables.remove_currency(name)?;
         if let Some(place) = place {
@@ -123,12 +123,12 @@ impl Ledger {
         ensures refused { IfErr result
             (λ e. (amend_refusal self.old ticket amount ≡ Some e) × (self.new ≡ self.old)) }
     {
-        self.tables.is_kept();
+        self.tables.is_well_formed();
         if let Some(refusal) = self.tables.amend_refusal(ticket, amount) {
             return Err(refusal);
         }
         let amount = amount as u32;
-        if !self.tables.is_held(ticket) {
+        if !self.tables.has_holder(ticket) {
             self.tables.amend(ticket, amount);
             return Ok(());
         }
@@ -149,9 +149,9 @@ impl Ledger {
         ensures refused { IfErr result
             (λ e. (fund_currency_refusal self.old ticket currency ≡ Some e) × (self.new ≡ self.old)) }
     {
-        self.tables.is_kept();
+        self.tables.is_well_formed();
         self.tables
-            .fund_currency(ticket, currency, &self.cache.net)?;
+            .fund_currency(ticket, currency, &self.cache.valuation)?;
         let (route, backing) = self.tables.route_of(ticket);
         self.cache.give(&self.tables, &route, backing);
         Ok(())
@@ -165,8 +165,8 @@ impl Ledger {
         ensures refused { IfErr result
             (λ e. (fund_flow_refusal self.old ticket flow ≡ Some e) × (self.new ≡ self.old)) }
     {
-        self.tables.is_kept();
-        self.tables.fund_flow(ticket, flow, &self.cache.net)?;
+        self.tables.is_well_formed();
+        self.tables.fund_flow(ticket, flow, &self.cache.valuation)?;
         let (route, backing) = self.tables.route_of(ticket);
         self.cache.give(&self.tables, &route, backing);
         Ok(())
@@ -179,7 +179,7 @@ impl Ledger {
         ensures refused { IfErr result
             (λ e. (unfund_refusal self.old ticket ≡ Some e) × (self.new ≡ self.old)) }
     {
-        self.tables.is_kept();
+        self.tables.is_well_formed();
         if let Some(refusal) = self.tables.unfund_refusal(ticket) {
             return Err(refusal);
         }
@@ -199,7 +199,7 @@ impl Ledger {
         ensures refused { IfErr result
             (λ e. IsRefused (add_flow_refusal self.old name) e × (self.new ≡ self.old)) }
     {
-        self.tables.is_kept();
+        self.tables.is_well_formed();
         let count = self.tables.flow_count();
         let flow = self.tables.add_flow(name)?;
         self.cache.append_none(count);
@@ -210,7 +210,7 @@ impl Ledger {
     pub fn remove_flow(&mut self, flow: FlowNo)
         ensures { self.new ≡ remove_flow self.old flow }
     {
-        self.tables.is_kept();
+        self.tables.is_well_formed();
         let place = self.tables.place_of_flow(flow);
         self.tables.remove_flow(flow);
         if let Some(place) = place {
@@ -225,7 +225,7 @@ impl Ledger {
     pub fn set_active(&mut self, flow: FlowNo, active: bool)
         ensures { self.new ≡ set_active self.old flow active }
     {
-        self.tables.is_kept();
+        self.tables.is_well_formed();
         if let Some(place) = self.tables.set_active(flow, active) {
             self.cache.set_active(&self.tables, place, active);
         }
@@ -291,7 +291,7 @@ impl Ledger {
         requires { place < length self.now.flows }
         ensures { option_map (λ e. tickets self.now e.1.number) (slice_get self.now.flows place) ≡ Some result }
     {
-        self.tables.is_kept();
+        self.tables.is_well_formed();
         self.cache.tickets_of_all[place]
     }
 
@@ -299,7 +299,7 @@ impl Ledger {
     pub fn ticket_counts(&self) -> &[u32]
         ensures { result.now ≡ map (λ e. tickets self.now e.1.number) self.now.flows }
     {
-        self.tables.is_kept();
+        self.tables.is_well_formed();
         &self.cache.tickets_of_all[..self.tables.flow_count()]
     }
 

@@ -16,12 +16,12 @@ mod funds;
 mod holders;
 mod laws;
 mod ledger;
-mod net;
 mod ranks;
 mod recomputing;
 mod routes;
 mod stale;
 mod tables;
 mod tickets;
+mod valuation;
 
 pub use ledger::Ledger;

@@ -145,7 +145,7 @@ pub(crate) fn list_all(
     ensures ranked { AreRanks backing.now (numbers_of ranks.new) }
     ensures listed { AreListed (numbers_of ranks.new) (numbers_of order.new) }
 {
-    tables.is_kept();
+    tables.is_well_formed();
     let Some(ranking) = list(backing, Edge { from: 0, to: 0 }) else {
         unreachable!();
     };

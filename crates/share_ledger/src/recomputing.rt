@@ -5,14 +5,14 @@ ghost use Rattle.share_model.specs.lists.Each.{Each};
 ghost use Rattle.share_ledger.specs.Arrays.{flags_of, numbers_of};
 ghost use Rattle.share_ledger.specs.FundingTickets.{IsFundingTicketWithin, AreSmall, funding_tickets_at, worth_at};
 ghost use Rattle.share_ledger.specs.FundingTickets.{backs_of, funds_of};
-ghost use Rattle.share_ledger.specs.Nets.{activity_of, HasInputs, IsReady};
+ghost use Rattle.share_ledger.specs.Valuations.{activity_of, HasInputs, IsReady};
 ghost use Rattle.share_ledger.specs.Stale.{WasCurrent};
 
-use crate::net::{self, Net};
 use crate::stale;
 use crate::tables::{MAX_FLOWS, Tables};
+use crate::valuation::{self, Valuation};
 
-impl Net {
+impl Valuation {
     /// Computes what follows from the funding tickets and the activity: what is awake, the values, and the flows'
     /// tickets.
     pub(crate) fn recompute(&mut self, tables: &Tables, tickets_of_all: &mut [u32; MAX_FLOWS])
@@ -21,8 +21,8 @@ impl Net {
             (activity_of tables.now) }
         ensures long { length tickets_of_all.new ≡ 64 }
     {
-        tables.is_kept();
-        net::spread(
+        tables.is_well_formed();
+        valuation::spread(
             tables,
             &self.backing,
             &self.active,
@@ -30,14 +30,14 @@ impl Net {
             &mut self.awake,
             &mut self.weights,
         );
-        net::revalue(
+        valuation::revalue(
             &self.backing,
             &self.awake,
             &self.weights,
             &self.order,
             &mut self.values,
         );
-        net::reshare(
+        valuation::reshare(
             &self.funding,
             &self.active,
             &self.weights,
@@ -62,8 +62,8 @@ impl Net {
             (activity_of tables.now) }
         ensures long { length tickets_of_all.new ≡ 64 }
     {
-        tables.is_kept();
-        net::spread(
+        tables.is_well_formed();
+        valuation::spread(
             tables,
             &self.backing,
             &self.active,
@@ -99,7 +99,7 @@ impl Net {
             → numbers_of self.now.weights.value p ≡ numbers_of self.now.seen.value p }
         ensures asleep { result ≡ true → (nat_eq currency 0 || not (flags_of self.now.awake.value currency)) ≡ true }
     {
-        if !net::are_same(&self.weights, &self.seen) {
+        if !valuation::are_same(&self.weights, &self.seen) {
             return false;
         }
         currency == 0 || !self.awake[currency]

@@ -11,8 +11,8 @@ ghost use Rattle.share_ledger.specs.Stale.{is_stale, is_touched, WereValued, Hav
 ghost use Rattle.share_ledger.specs.Stale.{AreUntouched};
 
 use crate::funding_tickets::{FundingTickets, bit_of, come_from};
-use crate::net;
 use crate::tables::{MAX_FLOWS, PLACES};
+use crate::valuation;
 
 /// The places whose value or weight has changed: a flag for each, and the bits of those that are flagged.
 #[derive(Clone, Copy, Debug)]
@@ -102,7 +102,7 @@ fn revalue_at(
         ≡ (if nat_eq place k then not (nat_eq (numbers_of weights.now place) (numbers_of seen.now place))
         || not (nat_eq (numbers_of values.new place) (numbers_of values.old place)) else flags_of moved.old.flags k) }
 {
-    let value = net::value_at(backing, awake, weights, values, place);
+    let value = valuation::value_at(backing, awake, weights, values, place);
     flag(
         moved,
         place,
@@ -256,7 +256,7 @@ pub(crate) fn reshare(
 {
     let mut place = 0;
     while let Some(stale) = next_touched(funding, active, moved, changed, place) {
-        tickets_of_all[stale] = net::share_at(funding, active, weights, values, stale);
+        tickets_of_all[stale] = valuation::share_at(funding, active, weights, values, stale);
         place = stale + 1;
     }
 }

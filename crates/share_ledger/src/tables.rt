@@ -3,7 +3,7 @@ ghost use Rattle.std.specs.Prelude.{◌≡◌, length, bytes_eq, nat_eq, map, po
 ghost use Rattle.std.specs.Prelude.{option_copied, slice_get, Some, MatchOption, IsTrue, ◌-◌, ◌≤◌, ◌<◌, IfSome};
 ghost use Rattle.share_model.specs.funding.Graph.{base, empty_graph};
 ghost use Rattle.share_model.specs.funding.Changes.{ticket_of, is_currency, flow_named, is_numbered};
-ghost use Rattle.share_model.specs.funding.Kept.{IsKept, names_of, times};
+ghost use Rattle.share_model.specs.funding.WellFormed.{IsWellFormed, names_of, times};
 ghost use Rattle.share_ledger.specs.Places.{place};
 ghost use Rattle.share_model.specs.declared.funding.OpenFlow.{OpenFlow};
 
@@ -50,7 +50,7 @@ pub(crate) struct Tables {
 
 impl Model for Tables {
     ghost use Rattle.share_model.specs.funding.Graph.{Graph};
-    ghost use Rattle.share_model.specs.funding.Kept.{IsKept};
+    ghost use Rattle.share_model.specs.funding.WellFormed.{IsWellFormed};
 
     ghost Value = { Graph };
 
@@ -62,7 +62,7 @@ impl Model for Tables {
       next_flow = t.next_flow;
     } };
 
-    ghost invariant = { λ t. IsKept (record {
+    ghost invariant = { λ t. IsWellFormed (record {
       currencies = t.currencies.keys;
       tickets = t.tickets.items;
       next_ticket = t.next_ticket;
@@ -93,8 +93,8 @@ impl Tables {
     }
 
     /// A law: the graph is well formed.
-    pub(crate) fn is_kept(&self)
-        ensures { IsKept self.now }
+    pub(crate) fn is_well_formed(&self)
+        ensures { IsWellFormed self.now }
     {
         let _ = &self.next_ticket;
     }
@@ -146,7 +146,7 @@ impl Tables {
         ensures value { result ≡ place (names_of self.now) name }
         ensures within { result < 65 }
     {
-        self.is_kept();
+        self.is_well_formed();
         if is_base(name) {
             return 0;
         }
@@ -224,7 +224,7 @@ impl Tables {
         ensures { IsTrue result
             → position (λ (o : OpenFlow). nat_eq flow o.number) (map (λ e. e.1) self.now.flows) ≡ Some place }
     {
-        self.is_kept();
+        self.is_well_formed();
         match self.flow_at(place) {
             None => false,
             Some((_, open)) => flow == open.number,

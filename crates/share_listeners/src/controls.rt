@@ -2,13 +2,13 @@
 
 use mio::{Interest, Registry, Token};
 use share_controls::ControlConnection;
-use share_doorways::{Source, Sources};
+use share_doorways::{Acceptor, Source, Sources};
 use share_news::News;
 use share_sockets::{Listener, Stream};
 use slab::Slab;
 use std::alloc::Global;
-use std::io::{Eprint, ErrorKind};
-use std::time::{Clock, Duration, Instant};
+use std::io::Eprint;
+use std::time::{Clock, Instant};
 
 /// The most control connections at the same time.
 const MAX_CONTROLS: usize = 16;
@@ -16,34 +16,25 @@ const MAX_CONTROLS: usize = 16;
 /// The number of connections accepted in a round.
 const ACCEPTS: u32 = 64;
 
-/// The seconds after which the listener is tried again if connections cannot be accepted.
-const RETRY_SECONDS: u64 = 1;
-
 /// The listener of control connections, and those that are open.
 #[derive(Drop)]
 pub struct Controls {
-    listener: Listener,
+    listener: Acceptor,
     connections: Slab<ControlConnection>,
-    // Whether connections may wait.
-    is_ready: bool,
-    // When the listener is tried again, if its connections could not be accepted.
-    retry: Option<Instant>,
 }
 
 impl Controls {
     /// No connections at a listener.
     pub fn new(alloc: Global, listener: Listener) -> Controls {
         Controls {
-            listener,
+            listener: Acceptor::new(listener),
             connections: Slab::new(alloc),
-            is_ready: true,
-            retry: None,
         }
     }
 
     /// Connections may wait.
     pub fn note_listener(&mut self) {
-        self.is_ready = true;
+        self.listener.note();
     }
 
     /// A connection was reported ready.
@@ -65,7 +56,7 @@ impl Controls {
 
     /// The time at which the listener is tried again.
     pub fn due(&self) -> Option<Instant> {
-        self.retry
+        self.listener.due()
     }
 
     /// Accepts the connections that wait. Returns true if more may.
@@ -78,46 +69,14 @@ impl Controls {
         news: &mut News,
         now: Instant,
     ) -> bool {
-        self.retry_listener(now);
+        self.listener.tick(now);
         for _ in 0..ACCEPTS {
-            match self.next_stream(rt, news, now) {
+            match self.listener.accept(rt, news, now) {
                 None => return false,
-                Some(stream) => self.admit(rt, alloc, registry, sources, news, now, stream),
+                Some((stream, _)) => self.admit(rt, alloc, registry, sources, news, now, stream),
             }
         }
         true
-    }
-
-    fn retry_listener(&mut self, now: Instant) {
-        if let Some(at) = self.retry {
-            if at.saturating_duration_since(now).is_zero() {
-                self.retry = None;
-                self.is_ready = true;
-            }
-        }
-    }
-
-    // The next connection that waits.
-    fn next_stream<R: Clock + Eprint>(
-        &mut self,
-        rt: &R,
-        news: &mut News,
-        now: Instant,
-    ) -> Option<Stream> {
-        if !self.is_ready {
-            return None;
-        }
-        match self.listener.accept() {
-            Ok(stream) => Some(stream),
-            Err(fault) => {
-                self.is_ready = false;
-                if fault.kind() != ErrorKind::WouldBlock {
-                    self.retry = now.checked_add(Duration::from_secs(RETRY_SECONDS));
-                    news.tell_not_accepted(rt, &fault);
-                }
-                None
-            }
-        }
     }
 
     // Adds a connection. If there are as many as there may be, the one whose last line is longest ago is closed first.

@@ -2,26 +2,23 @@
 
 use mio::{Interest, Registry, Token};
 use share_base::FlowNo;
-use share_doorways::{Doorways, PortPlace, Source, Sources};
+use share_doorways::{Acceptor, Doorways, PortAddress, Source, Sources};
 use share_downlink::{Datagrams, Deliver, Downlink, takes_address};
 use share_news::{News, NotRun};
-use share_settings::{Downlink as Setting, Peer};
+use share_settings::{Downlink as DownlinkSettings, Peer};
 use share_sockets::{Listener, PacketSocket, Stream};
 use share_status::{DownlinkState, DownlinkStatus};
 use std::alloc::Global;
 use std::io;
 use std::io::{Eprint, ErrorKind};
 use std::net::{IpAddr, Net, SocketAddr};
-use std::time::{Clock, Duration, Instant};
+use std::time::{Clock, Instant};
 
 /// The number of connections accepted in a round.
 const ACCEPTS: u32 = 64;
 
 /// The number of connections closed in a round: those that were open before it, and those that were accepted in it.
 const CLOSES: u32 = 128;
-
-/// The seconds after which the listener is tried again if connections cannot be accepted.
-const RETRY_SECONDS: u64 = 1;
 
 /// The downlink, on which the frames of another gateway come in.
 #[derive(Drop)]
@@ -43,12 +40,8 @@ enum Way {
 /// The listener, and the connections that came by it.
 #[derive(Drop)]
 struct Connections {
-    listener: Listener,
+    listener: Acceptor,
     downlink: Downlink,
-    // Whether connections may wait.
-    is_ready: bool,
-    // When the listener is tried again, if its connections could not be accepted.
-    retry: Option<Instant>,
 }
 
 /// Gives packets to the doors of their tenants.
@@ -70,23 +63,23 @@ impl FarEnd {
         alloc: Global,
         registry: &Registry,
         sources: &mut Sources,
-        setting: &Setting,
+        settings: &DownlinkSettings,
     ) -> Result<FarEnd, NotRun> {
         let Some(token) = sources.add(Source::Downlink) else {
             return Err(NotRun::NoMemory);
         };
-        let opened = match setting.listen {
+        let opened = match settings.listen {
             Peer::Tcp(address) => listen(net, alloc, registry, token, address),
-            Peer::Udp(address) => receive(net, registry, token, address, setting.from),
+            Peer::Udp(address) => receive(net, registry, token, address, settings.from),
         };
         match opened {
             Ok((way, address)) => Ok(FarEnd {
                 address,
-                from: setting.from,
+                from: settings.from,
                 way,
             }),
-            Err(fault) => Err(NotRun::Place {
-                port: place_of(setting.listen),
+            Err(fault) => Err(NotRun::Port {
+                port: address_of(settings.listen),
                 fault,
             }),
         }
@@ -95,7 +88,7 @@ impl FarEnd {
     /// The listener or the datagram socket was reported ready.
     pub fn note(&mut self) {
         match &mut self.way {
-            Way::Connections(connections) => connections.is_ready = true,
+            Way::Connections(connections) => connections.listener.note(),
             Way::Datagrams(datagrams) => datagrams.note(),
         }
     }
@@ -111,7 +104,7 @@ impl FarEnd {
     /// The time at which the listener is tried again.
     pub fn due(&self) -> Option<Instant> {
         match &self.way {
-            Way::Connections(connections) => connections.retry,
+            Way::Connections(connections) => connections.listener.due(),
             Way::Datagrams(_) => None,
         }
     }
@@ -181,8 +174,8 @@ fn state_of(is_up: bool) -> DownlinkState {
     }
 }
 
-// The place of a downlink, as that of a port.
-fn place_of(listen: Peer) -> PortPlace {
+// The address of a downlink, as that of a port.
+fn address_of(listen: Peer) -> PortAddress {
     listen.port()
 }
 
@@ -200,10 +193,8 @@ fn listen(
     };
     let address = listener.local_address()?.unwrap_or(address);
     let connections = Connections {
-        listener,
+        listener: Acceptor::new(listener),
         downlink,
-        is_ready: true,
-        retry: None,
     };
     Ok((Way::Connections(connections), address))
 }
@@ -248,9 +239,9 @@ impl Connections {
         from: Option<IpAddr>,
         now: Instant,
     ) -> bool {
-        self.retry_listener(now);
+        self.listener.tick(now);
         for _ in 0..ACCEPTS {
-            let Some((stream, address)) = self.next_stream(rt, news, now) else {
+            let Some((stream, Some(address))) = self.listener.accept(rt, news, now) else {
                 return false;
             };
             if takes_address(from, address) {
@@ -261,42 +252,6 @@ impl Connections {
             }
         }
         true
-    }
-
-    fn retry_listener(&mut self, now: Instant) {
-        if let Some(at) = self.retry {
-            if at.saturating_duration_since(now).is_zero() {
-                self.retry = None;
-                self.is_ready = true;
-            }
-        }
-    }
-
-    // The next connection that waits, and its address.
-    fn next_stream<R: Clock + Eprint>(
-        &mut self,
-        rt: &R,
-        news: &mut News,
-        now: Instant,
-    ) -> Option<(Stream, SocketAddr)> {
-        if !self.is_ready {
-            return None;
-        }
-        match self.listener.accept_from() {
-            Ok((stream, Some(address))) => Some((stream, address)),
-            Ok((stream, None)) => {
-                drop(stream);
-                None
-            }
-            Err(fault) => {
-                self.is_ready = false;
-                if fault.kind() != ErrorKind::WouldBlock {
-                    self.retry = now.checked_add(Duration::from_secs(RETRY_SECONDS));
-                    news.tell_not_accepted(rt, &fault);
-                }
-                None
-            }
-        }
     }
 
     // Adds a connection. It is closed if memory is refused.

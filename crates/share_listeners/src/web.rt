@@ -1,34 +1,27 @@
 //! The web listener, and the connections that came by it.
 
 use mio::{Interest, Registry, Token};
-use share_doorways::{Source, Sources};
+use share_doorways::{Acceptor, Source, Sources};
 use share_news::News;
 use share_sockets::{Listener, Stream};
 use share_web::{Request, asked};
 use share_web_clients::{Stage, WebClient};
 use slab::Slab;
 use std::alloc::{AllocError, Global};
-use std::io::{Eprint, ErrorKind};
+use std::io::Eprint;
 use std::net::SocketAddr;
 use std::time::{Clock, Duration, Instant};
 
 /// The most connections at the same time. More wait until one ends.
 const MAX_CLIENTS: usize = 32;
 
-/// The seconds after which the listener is tried again if connections cannot be accepted.
-const RETRY_SECONDS: u64 = 1;
-
 /// The web listener, and its connections.
 #[derive(Drop)]
 pub struct Web {
-    listener: Listener,
+    listener: Acceptor,
     // The address, as the Host of a request has it.
     address: String,
     clients: Slab<WebClient>,
-    // Whether connections may wait.
-    is_ready: bool,
-    // When the listener is tried again, if its connections could not be accepted.
-    retry: Option<Instant>,
 }
 
 impl Web {
@@ -36,17 +29,15 @@ impl Web {
     pub fn new(alloc: Global, listener: Listener, address: SocketAddr) -> Result<Web, AllocError> {
         let address = format!(in alloc; "{address}")?;
         Ok(Web {
-            listener,
+            listener: Acceptor::new(listener),
             address,
             clients: Slab::new(alloc),
-            is_ready: true,
-            retry: None,
         })
     }
 
     /// Connections may wait.
     pub fn note_listener(&mut self) {
-        self.is_ready = true;
+        self.listener.note();
     }
 
     /// A connection was reported ready.
@@ -63,7 +54,10 @@ impl Web {
 
     /// The time in which nothing has to be done, if no source is ready before. `None` is for ever.
     pub fn pause(&self, now: Instant) -> Option<Duration> {
-        let mut pause = self.retry.map(|at| at.saturating_duration_since(now));
+        let mut pause = self
+            .listener
+            .due()
+            .map(|at| at.saturating_duration_since(now));
         for key in 0..self.clients.capacity() {
             if let Some(client) = self.clients.get(key) {
                 let left = client.time_left(now);
@@ -85,46 +79,14 @@ impl Web {
         news: &mut News,
         now: Instant,
     ) {
-        self.retry_listener(now);
+        self.listener.tick(now);
         for _ in 0..MAX_CLIENTS {
             if self.clients.len() >= MAX_CLIENTS {
                 return;
             }
-            match self.next_stream(rt, news, now) {
+            match self.listener.accept(rt, news, now) {
                 None => return,
-                Some(stream) => self.admit(alloc, registry, sources, now, stream),
-            }
-        }
-    }
-
-    fn retry_listener(&mut self, now: Instant) {
-        if let Some(at) = self.retry {
-            if at.saturating_duration_since(now).is_zero() {
-                self.retry = None;
-                self.is_ready = true;
-            }
-        }
-    }
-
-    // The next connection that waits.
-    fn next_stream<R: Clock + Eprint>(
-        &mut self,
-        rt: &R,
-        news: &mut News,
-        now: Instant,
-    ) -> Option<Stream> {
-        if !self.is_ready {
-            return None;
-        }
-        match self.listener.accept() {
-            Ok(stream) => Some(stream),
-            Err(fault) => {
-                self.is_ready = false;
-                if fault.kind() != ErrorKind::WouldBlock {
-                    self.retry = now.checked_add(Duration::from_secs(RETRY_SECONDS));
-                    news.tell_not_accepted(rt, &fault);
-                }
-                None
+                Some((stream, _)) => self.admit(alloc, registry, sources, now, stream),
             }
         }
     }
@@ -203,6 +165,6 @@ impl Web {
             drop(sources.remove(token));
         }
         // A connection that waits has room.
-        self.is_ready
+        self.listener.is_ready()
     }
 }

@@ -1,6 +1,6 @@
 //! Laws of every running link. A function here does nothing: its contract is a law, which is proved with it.
 ghost use Rattle.std.specs.Prelude.{◌≡◌, ◌≢◌, ℕ, List, ◌∷◌, None};
-ghost use Rattle.share_model.specs.link.Places.{IsCompeting, GainsWithinShare};
+ghost use Rattle.share_model.specs.link.Gains.{IsCompeting, GainsWithinShare};
 ghost use Rattle.share_model.specs.link.Readings.{TicketsAreWithin, TicketsAreUncapped};
 ghost use Rattle.share_model.specs.lists.Each.{Each};
 ghost use Rattle.share_locked.specs.Chains.{IsLockedChain, links_of};

@@ -20,7 +20,7 @@ const WRITES: u32 = 64;
 /// Follows a link's service.
 pub trait Attendant {
     /// The link has nothing more to send at this moment.
-    fn rests(&self);
+    fn idles(&self);
 
     /// The link has stopped taking offers.
     fn ends<R: Wait>(&self, rt: &R);
@@ -193,7 +193,7 @@ impl<'a, A: Attendant> Pacing for Paced<'a, A> {
         if self.idle_rounds < IDLE_ROUNDS {
             thread::yield_now();
         } else {
-            self.attendant.rests();
+            self.attendant.idles();
             self.lie_down_or_sleep(rt);
         }
     }

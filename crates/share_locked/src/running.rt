@@ -15,11 +15,11 @@ pub type Port<W, S, L> = Mutex<Locked<W, S, L>>;
 /// The most bytes that a turn offers.
 const MOST: u32 = 65535;
 
-/// The rounds in a row with nothing to do after which a link that nobody wakes begins to rest.
+/// The rounds in a row with nothing to do after which a link that nobody wakes begins to pause.
 const EAGER: u32 = 16;
 
-/// The number of milliseconds that it then rests after each round with nothing to do.
-const REST: u64 = 2;
+/// The number of milliseconds that it then pauses after each round with nothing to do.
+const PAUSE: u64 = 2;
 
 /// A flag that is set once, and stays set.
 #[derive(Drop)]
@@ -106,7 +106,7 @@ pub(crate) trait Pacing {
     fn pause<R: Wait>(&mut self, rt: &R);
 }
 
-// Rests for a short time while there is nothing to do.
+// Pauses for a short time while there is nothing to do.
 #[derive(Drop)]
 struct Timed {
     parker: Parker,
@@ -123,7 +123,7 @@ impl Pacing for Timed {
         if self.idle < EAGER {
             thread::yield_now();
         } else {
-            self.parker.park_timeout(rt, Duration::from_millis(REST));
+            self.parker.park_timeout(rt, Duration::from_millis(PAUSE));
         }
     }
 }
@@ -131,7 +131,7 @@ impl Pacing for Timed {
 /// Serves a link until it is stopped and has nothing left to do, or until its life is spent. A round admits offers
 /// until the queue is empty, at most as many as the queue has places, and then makes one turn. Each call locks by
 /// itself, so others get the lock between any two calls. A command waits only for the calls before it. After some
-/// rounds in a row with nothing to do it rests for two milliseconds after each.
+/// rounds in a row with nothing to do it pauses for two milliseconds after each.
 pub fn run_link<W: TellingWriter, S: Rates, L: LinkBrand, R: Wait>(
     rt: &R,
     port: &Port<W, S, L>,

@@ -1,4 +1,4 @@
-pub mod Headline
+pub mod Promise
 pub mod funding
 pub mod ingress
 pub mod io

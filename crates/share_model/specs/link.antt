@@ -9,7 +9,7 @@ pub mod Commands
 pub mod Fields
 pub mod Frame
 pub mod Live
-pub mod Places
+pub mod Gains
 pub mod Readings
 pub mod Rows
 pub mod Step

@@ -24,9 +24,10 @@ ghost use Rattle.share_model.specs.run.Fold.{Sent, TornFrame, empty_state, run, 
 ghost use Rattle.share_model.specs.run.Events.{MayRun, event_bytes, writes_in};
 ghost use Rattle.share_model.specs.run.Sound.{max_life, Sound, SoundState};
 ghost use Rattle.share_model.specs.lists.Rises.{Rises};
-ghost use Rattle.share_model.specs.run.History.{accepted_packets, packets_of, held_packets, AreFramesOf, sent_packets};
+ghost use Rattle.share_model.specs.run.History.{accepted_packets, packets_of, queued_packets, AreFramesOf};
+ghost use Rattle.share_model.specs.run.History.{sent_packets};
 ghost use Rattle.share_model.specs.run.History.{sent_numbers, bill, past_bill};
-ghost use Rattle.share_model.specs.link.Places.{SharesAreKept};
+ghost use Rattle.share_model.specs.link.Gains.{GainsAreWithinShares};
 ghost use Rattle.share_model.specs.link.Totals.{torn_count, waiting};
 ghost use Rattle.share_model.specs.link.View.{LinkView};
 ghost use Rattle.share_model.specs.funding.Graph.{base, flow_numbers, tickets};
@@ -35,7 +36,7 @@ ghost use Rattle.share_model.specs.text.Events.{made_of, events_of, texts_of};
 ghost use Rattle.share_model.specs.text.Report.{report};
 ghost use Rattle.share_model.specs.text.Talk.{start_of_script, version_of_script, talk, after, FoundMemory};
 ghost use Rattle.share_model.specs.io.Told.{Told};
-ghost use Rattle.share_model.specs.Headline.{Headline};
+ghost use Rattle.share_model.specs.Promise.{Promise};
 
 use crate::writer::TellingWriter;
 
@@ -128,7 +129,7 @@ pub fn packets_are_sent_as_accepted()
         → has_number flow (flow_numbers (run version rates events).live.graph.flows) ≡ true
         → packets_of flow (accepted_packets rates (empty_state version) events)
         ≡ packets_of flow (sent_packets (run version rates events).done)
-        ++ held_packets (run version rates events).live.buffers flow }
+        ++ queued_packets (run version rates events).live.buffers flow }
     ensures first { (version : Version) (life : ℕ) (rates : List Rate) (events : List Event) → AreInRange rates
         → MayRun version life rates events → (flow : ℕ)
         → (rest : List Packet)
@@ -194,7 +195,7 @@ pub fn shares_of_runs()
 /// distance that `other` was ahead at the start, and the largest gain of `one` in a single call.
 pub fn shares_of_calls<W: TellingWriter>()
     ensures { (first : LinkView W) → AreInRange first.rates → Sound first.life first.rates first.live
-        → SharesAreKept W.answers first }
+        → GainsAreWithinShares W.answers first }
 {}
 
 /// While at most 2^20 of `base` is issued, in all its tickets together, the cap of 2^20 does not lower the tickets of
@@ -206,13 +207,13 @@ pub fn tickets_are_uncapped_of_runs()
         ≡ uncapped_tickets (run version rates events).live.graph flow }
 {}
 
-/// The promise, `Headline`, holds of every run. It does so for anyone who gives the fold's replies, holds its result,
+/// The promise, `Promise`, holds of every run. It does so for anyone who gives the fold's replies, holds its result,
 /// and reports its bytes and the counts of its writes. The laws of recorders and of scripts say that links do.
 pub fn runs_are_one_fold()
     ensures { (version : Version) (life : ℕ) (rates : List Rate) (events : List Event) (told : Told)
         → life ≤ max_life → AreInRange rates → MayRun version life rates events
         → told.bytes ≡ out (run version rates events) → filter (nat_lt 0) told.counts ≡ writes_in events
-        → Headline version life rates events (outcomes rates (empty_state version) events)
+        → Promise version life rates events (outcomes rates (empty_state version) events)
         (run version rates events).live (Some told) }
 {}
 

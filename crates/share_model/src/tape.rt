@@ -72,12 +72,12 @@ impl TellingWriter for Tape {
     ghost tells = { tape_tells };
 
     fn offer(&mut self, piece: &[u8]) -> Answer {
-        let held = self.bytes.len();
+        let before = self.bytes.len();
         if self.bytes.extend_from_slice(piece).is_err() {
             return Answer::Failed;
         }
         if self.counts.push(piece.len()).is_err() {
-            self.bytes.truncate(held);
+            self.bytes.truncate(before);
             return Answer::Failed;
         }
         Answer::Accepted(piece.len())

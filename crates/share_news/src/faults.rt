@@ -12,7 +12,7 @@ pub enum NotRun {
     /// Memory was refused.
     NoMemory,
     /// A port or the control listener could not be opened.
-    Place {
+    Port {
         port: Port,
         fault: io::Error,
     },
@@ -30,7 +30,7 @@ impl fmt::Display for NotRun {
     fn fmt<W: fmt::Write>(&self, f: &mut fmt::Formatter<W>) -> fmt::Result {
         match self {
             NotRun::NoMemory => f.write_str("out of memory"),
-            NotRun::Place { port, fault } => {
+            NotRun::Port { port, fault } => {
                 f.write_str(not_opened(port))?;
                 write!(f, "{}: {fault}", PortName(port))
             }

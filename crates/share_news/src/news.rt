@@ -36,7 +36,7 @@ impl News {
     /// Prints what became of the uplink.
     pub fn tell_uplink<R: Clock + Eprint>(&mut self, rt: &R, work: Work, uplink: &Uplink) {
         match work {
-            Work::Rests | Work::Busy => (),
+            Work::Idle | Work::Busy => (),
             Work::Connected => {
                 let address = uplink.address();
                 self.messages
@@ -177,10 +177,10 @@ impl News {
         &mut self,
         rt: &R,
         tenant: Name,
-        place: &Port,
+        address: &Port,
         why: &PortEnd,
     ) {
-        let port = PortName(place);
+        let port = PortName(address);
         match why {
             PortEnd::Ended => self.messages.say(
                 rt,

@@ -2,4 +2,3 @@ pub mod Obeys
 pub mod Orders
 pub mod OrderRows
 pub mod Replies
-pub mod Words

@@ -4,7 +4,6 @@
 mod obeying;
 mod orders;
 mod replies;
-mod words;
 
 pub use obeying::{Duty, Obeyed, obey, obey_line};
 pub use orders::{Order, read_order};

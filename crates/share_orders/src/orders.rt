@@ -3,8 +3,8 @@ ghost use Rattle.std.specs.Prelude.{◌≡◌};
 ghost use Rattle.share_orders.specs.Orders.{amend_of, at_end, named_of, order_by, order_in};
 ghost use Rattle.share_orders.specs.declared.orders.Order.TheVariants.{Hold, Resume};
 
-use crate::words::Words;
 use share_base::Name;
+use share_text::Words;
 
 /// The order of a control line.
 #[derive(Clone, Copy, Debug, PartialEq, Eq)]

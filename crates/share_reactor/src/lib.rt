@@ -12,7 +12,7 @@ mod start;
 mod status;
 
 pub use reactor::Options;
-pub use running::{Place, run};
+pub use running::{FirstBook, run};
 pub use share_news::NotRun;
 pub use share_rotation::Left;
 pub use share_writer::SystemFiles;

@@ -4,7 +4,7 @@ use mio::event::Event;
 use mio::{Events, Poll, Token};
 use share_base::FlowNo;
 use share_catalog::Closing;
-use share_doorways::{Doorways, PortPlace, Source, Sources, remove_file};
+use share_doorways::{Doorways, PortAddress, Source, Sources, remove_file};
 use share_listeners::{Controls, FarEnd, Input, Web};
 use share_news::News;
 use share_reload::{ControlHolds, Roster};
@@ -69,7 +69,7 @@ pub struct Reactor<'b> {
     pub(crate) sources: Sources,
     pub(crate) doorways: Doorways,
     pub(crate) controls: Controls,
-    pub(crate) control_place: PortPlace,
+    pub(crate) control_address: PortAddress,
     pub(crate) web: Option<Web>,
     pub(crate) uplink: Option<Uplink>,
     pub(crate) uplink_token: Token,
@@ -299,7 +299,7 @@ impl Reactor<'_> {
         self.news.tell_uplink(rt, work, uplink);
         match work {
             Work::Busy | Work::Connected => true,
-            Work::Rests | Work::Lost | Work::Unreachable => false,
+            Work::Idle | Work::Lost | Work::Unreachable => false,
         }
     }
 
@@ -397,7 +397,7 @@ impl Reactor<'_> {
     /// Removes the files of Unix sockets.
     pub(crate) fn remove_files<R: Files>(&self, rt: &R) {
         self.doorways.remove_files(rt);
-        remove_file(rt, &self.control_place);
+        remove_file(rt, &self.control_address);
     }
 
     // The time in which nothing has to be done, if no source is ready before. `None` is for ever.

@@ -161,10 +161,10 @@ impl Reactor<'_> {
         added: &mut Added,
     ) -> Result<(), NotRun> {
         for index in 0..ports.ports.len() {
-            let place = &ports.ports[index];
-            if self.doorways.port_at(place).is_none() {
+            let address = &ports.ports[index];
+            if self.doorways.port_at(address).is_none() {
                 added.ports.reserve(1)?;
-                let port = self.open_port(rt, door, place, ports.mode)?;
+                let port = self.open_port(rt, door, address, ports.mode)?;
                 push_key(&mut added.ports, port)?;
             }
         }

@@ -18,25 +18,25 @@ use std::sync::Wait;
 use std::thread::Threads;
 use std::time::Clock;
 
-/// The place of a book that is to be begun: its folder, and its number there.
+/// The first book, which is to be begun: its folder, and its number there.
 #[derive(Drop)]
-pub struct Place {
+pub struct FirstBook {
     pub folder: Folder,
     pub number: u64,
 }
 
-/// Runs a gateway with the settings of the file at a path, until its end was asked for and is over. Its first book has
-/// this place. Returns what was left.
+/// Runs a gateway with the settings of the file at a path, until its end was asked for and is over. Its first book is
+/// this one. Returns what was left.
 pub fn run<R: SystemFiles + Net + Clock + Wait + Threads + Sync + Eprint>(
     rt: &R,
     alloc: Global,
     path: &str,
     settings: Settings,
-    place: Place,
+    first: FirstBook,
     options: Options,
 ) -> Result<Left, NotRun> {
     let ground = Ground::open(rt, alloc, &settings, options.until_eof)?;
-    let Place { folder, number } = place;
+    let FirstBook { folder, number } = first;
     match begin(rt, alloc, &settings, &folder, number) {
         Err(fault) => {
             ground.remove_files(rt);
@@ -148,7 +148,7 @@ fn reactor_of<'b>(
         sources,
         doorways,
         controls,
-        control_place,
+        control_address,
         web,
         uplink,
         uplink_token,
@@ -161,7 +161,7 @@ fn reactor_of<'b>(
         sources,
         doorways,
         controls,
-        control_place,
+        control_address,
         web,
         uplink,
         uplink_token,

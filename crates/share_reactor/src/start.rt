@@ -3,8 +3,8 @@
 use crate::reactor::Reactor;
 use mio::{Poll, Registry, Token, Waker};
 use share_doorways::{
-    Doorways, PortPlace, Source, Sources, listen, not_opened, open_doors, open_port,
-    place_of_control, remove_file, token_of,
+    Doorways, PortAddress, Source, Sources, address_of_control, listen, not_opened, open_doors,
+    open_port, remove_file, token_of,
 };
 use share_listeners::{Controls, FarEnd, Input, Web};
 use share_news::NotRun;
@@ -23,7 +23,7 @@ pub(crate) struct Ground {
     pub(crate) sources: Sources,
     pub(crate) doorways: Doorways,
     pub(crate) controls: Controls,
-    pub(crate) control_place: PortPlace,
+    pub(crate) control_address: PortAddress,
     pub(crate) web: Option<Web>,
     pub(crate) uplink: Option<Uplink>,
     pub(crate) uplink_token: Token,
@@ -38,12 +38,12 @@ fn open_control<R: Files + Net>(
     registry: &Registry,
     sources: &mut Sources,
     control: &Control,
-    place: &PortPlace,
+    address: &PortAddress,
 ) -> Result<Listener, NotRun> {
     let token = token_of(sources, Source::ControlListener)?;
-    match listen(rt, registry, token, place, control.mode) {
+    match listen(rt, registry, token, address, control.mode) {
         Ok(listener) => Ok(listener),
-        Err(fault) => Err(not_opened(alloc, place, fault)),
+        Err(fault) => Err(not_opened(alloc, address, fault)),
     }
 }
 
@@ -69,10 +69,10 @@ fn open_web<R: Files + Net>(
         return Ok(None);
     };
     let token = token_of(sources, Source::WebListener)?;
-    let place = PortPlace::Tcp(web.listen);
-    match listen(rt, registry, token, &place, 0) {
+    let address = PortAddress::Tcp(web.listen);
+    match listen(rt, registry, token, &address, 0) {
         Ok(listener) => Ok(Some(Web::new(alloc, listener, web.listen)?)),
-        Err(fault) => Err(not_opened(alloc, &place, fault)),
+        Err(fault) => Err(not_opened(alloc, &address, fault)),
     }
 }
 
@@ -113,7 +113,7 @@ impl Ground {
         let uplink_token = token_of(&mut sources, Source::Uplink)?;
         let poll = Poll::new(rt)?;
         let input = open_input(&poll, &mut sources, until_eof)?;
-        let control_place = place_of_control(alloc, &settings.control.listen)?;
+        let control_address = address_of_control(alloc, &settings.control.listen)?;
         let far_end = open_far_end(rt, alloc, poll.registry(), &mut sources, settings)?;
         match open_all(
             rt,
@@ -122,14 +122,14 @@ impl Ground {
             &mut sources,
             &mut doorways,
             settings,
-            &control_place,
+            &control_address,
         ) {
             Ok((controls, web)) => Ok(Ground {
                 poll,
                 sources,
                 doorways,
                 controls,
-                control_place,
+                control_address,
                 web,
                 uplink,
                 uplink_token,
@@ -152,7 +152,7 @@ impl Ground {
     /// Removes the files of Unix sockets.
     pub(crate) fn remove_files<R: Files>(&self, rt: &R) {
         self.doorways.remove_files(rt);
-        remove_file(rt, &self.control_place);
+        remove_file(rt, &self.control_address);
     }
 }
 
@@ -165,7 +165,7 @@ fn open_all<R: Files + Net>(
     sources: &mut Sources,
     doorways: &mut Doorways,
     settings: &Settings,
-    control_place: &PortPlace,
+    control_address: &PortAddress,
 ) -> Result<(Controls, Option<Web>), NotRun> {
     let registry = poll.registry();
     open_doors(rt, alloc, registry, sources, doorways, settings)?;
@@ -176,7 +176,7 @@ fn open_all<R: Files + Net>(
         registry,
         sources,
         &settings.control,
-        control_place,
+        control_address,
     ) {
         Ok(listener) => Ok((Controls::new(alloc, listener), web)),
         Err(fault) => {
@@ -192,11 +192,11 @@ impl Reactor<'_> {
         &mut self,
         rt: &R,
         door: usize,
-        place: &PortPlace,
+        address: &PortAddress,
         mode: u32,
     ) -> Result<usize, NotRun> {
         let registry = self.poll.registry();
         let (alloc, sources, doorways) = (self.alloc, &mut self.sources, &mut self.doorways);
-        open_port(rt, alloc, registry, sources, doorways, door, place, mode)
+        open_port(rt, alloc, registry, sources, doorways, door, address, mode)
     }
 }

@@ -9,7 +9,7 @@ use Rattle.share_model.specs.declared.rates.Rate.{Rate}
 use Rattle.share_model.specs.io.Told.{Told}
 use Rattle.share_model.specs.link.Tariff.{AreInRange}
 use Rattle.share_model.specs.run.Fold.{State, out}
-use Rattle.share_model.proofs.lemmas.run.HeadlineLemmas.{headline}
+use Rattle.share_model.proofs.lemmas.run.PromiseLemmas.{promise}
 use Rattle.share_model.specs.run.Sound.{max_life}
 use Rattle.share_model.specs.text.Events.{events_of}
 use Rattle.share_model.proofs.lemmas.text.EventLemmas.{after-state, after-writes, events-may_follow, talk-texts}
@@ -304,7 +304,7 @@ fold_of a c engine last script left few range p =
       text = p.text;
       texts = talk-texts engine.life engine.rates p.lacks lines;
       keeps =
-          headline (version_of_script lines) engine.life engine.rates
+          promise (version_of_script lines) engine.life engine.rates
           (events_of engine.life engine.rates start_of_script p.lacks lines) _ last.live (Some last.writer) few range
           (events-may_follow engine.life engine.rates p.lacks lines range) refl
           (p.live ∙ ap (λ (s : State). s.live) state)

@@ -12,7 +12,7 @@ use Rattle.share_model.specs.run.Fold.{empty_state, outcomes, out}
 use Rattle.share_model.specs.link.View.{LinkView}
 use Rattle.share_model.specs.io.Told.{Told}
 use Rattle.share_model.specs.io.Calls.{HasRead, Offers, OfferRefused, Called, CallFailed}
-use Rattle.share_model.specs.Headline.{Headline}
+use Rattle.share_model.specs.Promise.{Promise}
 use Rattle.share_model.specs.text.Events.{made_of, events_of, texts_of}
 use Rattle.share_model.specs.text.Talk.{Progress, start_of_script, version_of_script, talk, after, is_feed, lines_of}
 use Rattle.share_model.specs.text.Answering.{AnswersBytes}
@@ -52,7 +52,7 @@ pub record IsOneFold (before after_it : Option (List ℕ)) (old : LinkView Told)
       ≡ texts_of (made_of old.life old.rates start_of_script lacks (lines_of script))
       (outcomes old.rates (empty_state (version_of_script (lines_of script)))
       (events_of old.life old.rates start_of_script lacks (lines_of script)))
-  pub keeps : Headline (version_of_script (lines_of script)) old.life old.rates
+  pub keeps : Promise (version_of_script (lines_of script)) old.life old.rates
       (events_of old.life old.rates start_of_script lacks (lines_of script))
       (outcomes old.rates (empty_state (version_of_script (lines_of script)))
       (events_of old.life old.rates start_of_script lacks (lines_of script))) new.live (Some new.writer)

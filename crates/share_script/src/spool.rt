@@ -104,7 +104,7 @@ impl Spool {
 }
 
 impl Text for Spool {
-    ghost held = { λ spool. spool };
+    ghost contents = { λ spool. spool };
 
     ghost room = { 65536 };
 

@@ -1,7 +1,7 @@
 //! The work at one ingress connection.
 ghost use Rattle.std.specs.Io.{ReadsAtMost};
 
-use crate::slots::LinkedEnd;
+use crate::slots::BrandedEnd;
 use share_connections::{ConnectionReader, Connections};
 use share_ingress::{Done, Ended, Gate, IngressReader, Why, run_worker};
 use share_locked::LinkBrand;
@@ -53,7 +53,7 @@ impl<'a> PacedReader<'a> {
 
 impl<'a> Read for PacedReader<'a> {
     fn read(&mut self, buf: &mut [u8]) -> io::Result<usize> {
-        if self.reader.connections.has_link_ended() {
+        if self.reader.connections.is_ingress_closed() {
             return Ok(0);
         }
         if self.is_blocking {
@@ -88,7 +88,7 @@ impl<'a, R: Wait> Gate for AtPace<'a, R> {
     // A worker at the link's pace finds the queue full only when the link has stopped taking offers.
     fn full(&mut self) -> bool {
         thread::yield_now();
-        !self.connections.has_link_ended()
+        !self.connections.is_ingress_closed()
     }
 }
 
@@ -100,13 +100,13 @@ pub fn work<R: Wait, L: LinkBrand>(
     connections: &Connections,
     number: usize,
     stream: &TcpStream,
-    linked: LinkedEnd<L>,
-) -> (LinkedEnd<L>, Why, u64) {
+    branded: BrandedEnd<L>,
+) -> (BrandedEnd<L>, Why, u64) {
     let worker = number as u64;
     let plain = ConnectionReader::new(stream, connections);
     let source = PlainReader(PacedReader::new(plain, worker));
     let Ok(reader) = IngressReader::new(alloc, source, TURNS) else {
-        return (linked, Why::Ended(Ended::NoMemory), 0);
+        return (branded, Why::Ended(Ended::NoMemory), 0);
     };
     let gate = AtPace {
         rt,
@@ -118,10 +118,10 @@ pub fn work<R: Wait, L: LinkBrand>(
         gate,
         why,
         tally,
-    } = run_worker(rt, reader, linked.into_end(), gate);
+    } = run_worker(rt, reader, branded.into_end(), gate);
     drop(gate);
     connections.pace().begin_waiting(worker);
-    (LinkedEnd::new(end), why, tally)
+    (BrandedEnd::new(end), why, tally)
 }
 
 /// The word for why a worker stopped.

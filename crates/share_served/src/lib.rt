@@ -12,7 +12,9 @@ mod slots;
 pub use audit_file::{AuditFile, Keep, found_at, has_file};
 pub use faults::{FoundFaults, Reasons, RunFault, ServeFault};
 pub use ingress::{why_text, work};
-pub use setup::{Doors, Fresh, Plan, Setting, Sockets, set_up};
+pub use setup::{Listeners, NewLink, Plan, Setup, Sockets, set_up};
 pub use share_connections::Reason;
-pub use shutdown::{EndedLink, close};
-pub use slots::{LinkedEnd, Places, Slot, all_clerks, all_ends, filled, make_places, with_clerks};
+pub use shutdown::{StoppedLink, close};
+pub use slots::{
+    BrandedEnd, EmptySlots, Slot, filled, make_slots, take_clerks, take_ends, with_clerks,
+};

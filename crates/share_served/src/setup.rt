@@ -9,7 +9,7 @@ ghost use Rattle.share_served.specs.Shutdown.{CanServe, RefusesToBegin, is_new};
 
 use crate::faults::{RunFault, ServeFault};
 use share_base::Version;
-use share_connections::{Connections, Listening, Reason, Uplink, Wire};
+use share_connections::{Connections, Listening, Reason, Uplink, UplinkSocket};
 use share_core::Engine;
 use share_ingress::{IngressEnd, Intake, queue};
 use share_journal::{Journal, Recorder};
@@ -22,7 +22,7 @@ use std::net::{TcpListener, TcpStream};
 use std::sync::Arc;
 
 /// The number of places that the queue has.
-const PLACES: usize = 256;
+const QUEUE_CAPACITY: usize = 256;
 
 /// The number of connections, and the ways in which the server behaves.
 #[derive(Clone, Copy, Debug, PartialEq, Eq)]
@@ -45,7 +45,7 @@ pub struct Sockets {
 
 /// A new link that is not served yet, with both sides of its queue.
 #[derive(Drop)]
-pub struct Fresh<S: Rates> {
+pub struct NewLink<S: Rates> {
     pub recorder: Recorder<PlainWriter<Uplink>, S>,
     pub intake: Intake,
     pub ends: Vec<IngressEnd>,
@@ -53,7 +53,7 @@ pub struct Fresh<S: Rates> {
 
 /// The listeners, and the connections that are open.
 #[derive(Drop)]
-pub struct Doors {
+pub struct Listeners {
     pub ingress: TcpListener,
     pub control: TcpListener,
     pub connections: Arc<Connections>,
@@ -62,9 +62,9 @@ pub struct Doors {
 /// All that there is before a link is served. It is one value, so that a function that ends early drops it in one step,
 /// which keeps the proof short.
 #[derive(Drop)]
-pub struct Setting<S: Rates> {
-    pub fresh: Fresh<S>,
-    pub doors: Doors,
+pub struct Setup<S: Rates> {
+    pub new_link: NewLink<S>,
+    pub listeners: Listeners,
     pub clerks: usize,
 }
 
@@ -97,27 +97,27 @@ fn recording<S: Rates + Drop>(
     }
 }
 
-// A new link over the uplink, with a queue of `PLACES` places for these workers.
+// A new link over the uplink, with a queue of `QUEUE_CAPACITY` places for these workers.
 fn link_over<S: Rates + Drop>(
     alloc: Global,
     shelf: S,
     journal: Journal,
     uplink: Uplink,
     workers: usize,
-) -> Result<Fresh<S>, ServeFault>
+) -> Result<NewLink<S>, ServeFault>
     requires { (1 ≤ workers) × (workers ≤ 8) }
-    ensures empty { IfOk result (λ fresh. fresh.recorder.entries ≡ []) }
-    ensures version { IfOk result (λ fresh. fresh.recorder.link.live.version ≡ Two) }
+    ensures empty { IfOk result (λ new_link. new_link.recorder.entries ≡ []) }
+    ensures version { IfOk result (λ new_link. new_link.recorder.link.live.version ≡ Two) }
     ensures new { IfOk result (λ _. is_new journal ≡ true) }
-    ensures queue { IfOk result (λ fresh.
-        (fresh.intake ≡ new_intake fresh.intake.link PLACES workers)
-        × (fresh.ends.items ≡ new_ends fresh.intake.link PLACES workers)) }
-    ensures linked { IfOk result (λ fresh. Each (λ e. e.link ≡ fresh.intake.link) fresh.ends.items) }
+    ensures queue { IfOk result (λ new_link.
+        (new_link.intake ≡ new_intake new_link.intake.link QUEUE_CAPACITY workers)
+        × (new_link.ends.items ≡ new_ends new_link.intake.link QUEUE_CAPACITY workers)) }
+    ensures linked { IfOk result (λ new_link. Each (λ e. e.link ≡ new_link.intake.link) new_link.ends.items) }
     ensures refused { IfErr result (RefusesToBegin journal) }
 {
     let recorder = recording(alloc, shelf, journal, uplink)?;
-    match queue(alloc, PLACES, workers) {
-        Ok((intake, ends)) => Ok(Fresh {
+    match queue(alloc, QUEUE_CAPACITY, workers) {
+        Ok((intake, ends)) => Ok(NewLink {
             recorder,
             intake,
             ends,
@@ -130,15 +130,15 @@ fn link_over<S: Rates + Drop>(
 }
 
 // The uplink, and the writer of the link over it.
-fn writer_over(alloc: Global, uplink: TcpStream) -> Result<(Arc<Wire>, Uplink), ServeFault>
+fn writer_over(alloc: Global, uplink: TcpStream) -> Result<(Arc<UplinkSocket>, Uplink), ServeFault>
     ensures { IfErr result (λ fault. fault ≡ ServeFault.NoMemory) }
 {
     let _ = uplink.set_nodelay(true);
-    let Ok(wire) = Arc::new(alloc, Wire::new(uplink)) else {
+    let Ok(socket) = Arc::new(alloc, UplinkSocket::new(uplink)) else {
         return Err(ServeFault::NoMemory);
     };
-    let writer = Uplink::new(&wire)?;
-    Ok((wire, writer))
+    let writer = Uplink::new(&socket)?;
+    Ok((socket, writer))
 }
 
 // The fault if listeners cannot be shared.
@@ -161,7 +161,7 @@ fn no_connections(
     alloc: Global,
     ingress: &TcpListener,
     control: &TcpListener,
-    wire: Arc<Wire>,
+    socket: Arc<UplinkSocket>,
     plan: Plan,
 ) -> Result<Arc<Connections>, RunFault>
     ensures { IfErr result (λ fault. (fault ≡ bare ServeFault.NoMemory) ⊎ (fault.kind ≡ ServeFault.Accept)) }
@@ -169,13 +169,13 @@ fn no_connections(
     let listening = match Listening::of(control, ingress) {
         Ok(listening) => listening,
         Err(fault) => {
-            drop(wire);
+            drop(socket);
             return Err(fault_of_listeners(fault));
         }
     };
-    let pace = Pace::new(alloc, PLACES, plan.workers)?;
+    let pace = Pace::new(alloc, QUEUE_CAPACITY, plan.workers)?;
     let room = plan.workers.saturating_add(plan.clerks);
-    let connections = Connections::new(alloc, listening, wire, pace, room, plan.is_verbose)?;
+    let connections = Connections::new(alloc, listening, socket, pace, room, plan.is_verbose)?;
     match Arc::new(alloc, connections) {
         Ok(connections) => Ok(connections),
         Err(_) => Err(RunFault::from(ServeFault::NoMemory)),
@@ -183,7 +183,11 @@ fn no_connections(
 }
 
 // The listeners, with no connection yet, and the writer of the link.
-fn open_doors(alloc: Global, sockets: Sockets, plan: Plan) -> Result<(Doors, Uplink), RunFault>
+fn open_listeners(
+    alloc: Global,
+    sockets: Sockets,
+    plan: Plan,
+) -> Result<(Listeners, Uplink), RunFault>
     ensures { IfErr result (λ fault. (fault ≡ bare ServeFault.NoMemory) ⊎ (fault.kind ≡ ServeFault.Accept)) }
 {
     let Sockets {
@@ -191,25 +195,25 @@ fn open_doors(alloc: Global, sockets: Sockets, plan: Plan) -> Result<(Doors, Upl
         control,
         uplink,
     } = sockets;
-    let (wire, writer) = writer_over(alloc, uplink)?;
-    let connections = no_connections(alloc, &ingress, &control, wire, plan)?;
-    let doors = Doors {
+    let (socket, writer) = writer_over(alloc, uplink)?;
+    let connections = no_connections(alloc, &ingress, &control, socket, plan)?;
+    let listeners = Listeners {
         ingress,
         control,
         connections,
     };
-    Ok((doors, writer))
+    Ok((listeners, writer))
 }
 
 // Prints where the server listens.
-fn tell_addresses<R: Eprint>(rt: &R, doors: &Doors) {
-    if let Ok(address) = doors.ingress.local_addr() {
+fn log_addresses<R: Eprint>(rt: &R, listeners: &Listeners) {
+    if let Ok(address) = listeners.ingress.local_addr() {
         let line = format_args!("listening for ingress on {address}");
-        doors.connections.tell(rt, line);
+        listeners.connections.log(rt, line);
     }
-    if let Ok(address) = doors.control.local_addr() {
+    if let Ok(address) = listeners.control.local_addr() {
         let line = format_args!("listening for control on {address}");
-        doors.connections.tell(rt, line);
+        listeners.connections.log(rt, line);
     }
 }
 
@@ -221,19 +225,19 @@ pub fn set_up<R: Eprint, S: Rates + Drop>(
     journal: Journal,
     sockets: Sockets,
     plan: Plan,
-) -> Result<Setting<S>, RunFault>
+) -> Result<Setup<S>, RunFault>
     requires { CanServe plan.workers plan.clerks }
-    ensures empty { IfOk result (λ s. s.fresh.recorder.entries ≡ []) }
-    ensures version { IfOk result (λ s. s.fresh.recorder.link.live.version ≡ Two) }
+    ensures empty { IfOk result (λ s. s.new_link.recorder.entries ≡ []) }
+    ensures version { IfOk result (λ s. s.new_link.recorder.link.live.version ≡ Two) }
     ensures new { IfOk result (λ _. is_new journal ≡ true) }
     ensures queue { IfOk result (λ s.
-        (s.fresh.intake ≡ new_intake s.fresh.intake.link PLACES plan.workers)
-        × (s.fresh.ends.items ≡ new_ends s.fresh.intake.link PLACES plan.workers)) }
-    ensures linked { IfOk result (λ s. Each (λ e. e.link ≡ s.fresh.intake.link) s.fresh.ends.items) }
+        (s.new_link.intake ≡ new_intake s.new_link.intake.link QUEUE_CAPACITY plan.workers)
+        × (s.new_link.ends.items ≡ new_ends s.new_link.intake.link QUEUE_CAPACITY plan.workers)) }
+    ensures linked { IfOk result (λ s. Each (λ e. e.link ≡ s.new_link.intake.link) s.new_link.ends.items) }
     ensures clerks { IfOk result (λ s. s.clerks ≡ plan.clerks) }
     ensures refused { IfErr result (λ fault. RefusesToBegin journal fault.kind) }
 {
-    let (doors, uplink) = match open_doors(alloc, sockets, plan) {
+    let (listeners, uplink) = match open_listeners(alloc, sockets, plan) {
         Ok(both) => both,
         Err(fault) => {
             drop(shelf);
@@ -242,17 +246,17 @@ pub fn set_up<R: Eprint, S: Rates + Drop>(
         }
     };
     match link_over(alloc, shelf, journal, uplink, plan.workers) {
-        Ok(fresh) => {
-            tell_addresses(rt, &doors);
+        Ok(new_link) => {
+            log_addresses(rt, &listeners);
             let clerks = plan.clerks;
-            Ok(Setting {
-                fresh,
-                doors,
+            Ok(Setup {
+                new_link,
+                listeners,
                 clerks,
             })
         }
         Err(kind) => {
-            drop(doors);
+            drop(listeners);
             Err(RunFault::from(kind))
         }
     }

@@ -19,7 +19,7 @@ use std::time::Clock;
 
 /// A link after its service, with the ends of its queue, its clerks, and what went wrong in its run.
 #[derive(Drop)]
-pub struct EndedLink<S: Rates, L: LinkBrand> {
+pub struct StoppedLink<S: Rates, L: LinkBrand> {
     pub locked: Locked<PlainWriter<Uplink>, S, L>,
     pub ends: Vec<IngressEnd>,
     pub clerks: Vec<Clerk<L>>,
@@ -27,11 +27,11 @@ pub struct EndedLink<S: Rates, L: LinkBrand> {
     pub found: FoundFaults,
 }
 
-impl<S: Rates, L: LinkBrand> EndedLink<S, L> {
+impl<S: Rates, L: LinkBrand> StoppedLink<S, L> {
     /// The reasons that the system gave for faults of the run.
     pub fn reasons<R: Wait>(&self, rt: &R) -> Reasons {
         let accept = self.connections.accept_fault(rt);
-        let uplink = self.connections.wire().fault();
+        let uplink = self.connections.socket().fault();
         Reasons {
             accept: accept.map(|fault| Reason(fault)),
             uplink: uplink.map(|fault| Reason(fault)),
@@ -78,19 +78,19 @@ fn finish<S: Rates, R: Clock + Eprint, K: Keep, O: TellingWriter>(
     ensures faults { result ≡ with_end found recorder.now.link.live.broken result.audit result.output }
 {
     let mut found = found;
-    let wire = connections.wire();
-    wire.end_writing();
+    let socket = connections.socket();
+    socket.end_writing();
     let counts = counts_of(recorder.journal());
     let (commands, arrivals, turns) = (counts.commands, counts.arrivals, counts.turns);
-    connections.tell(
+    connections.log(
         rt,
         format_args!("{commands} commands, {arrivals} arrivals, {turns} turns"),
     );
     found.uplink = recorder.engine().broken();
     found.audit = !keep.keep(recorder.journal());
     found.output = report(recorder.engine(), output).is_err();
-    connections.tell(rt, "waiting for the uplink's peer to end");
-    wire.read_away(rt);
+    connections.log(rt, "waiting for the uplink's peer to end");
+    socket.read_away(rt);
     found
 }
 
@@ -134,7 +134,7 @@ fn finish_unsettled<S: Rates + Drop, L: LinkBrand, R: Clock + Eprint, K: Keep, O
 pub fn close<S: Rates + Drop, L: LinkBrand, R: Clock + Eprint, K: Keep, O: TellingWriter>(
     rt: &R,
     alloc: Global,
-    ended: EndedLink<S, L>,
+    ended: StoppedLink<S, L>,
     keep: K,
     output: &mut O,
 ) -> FoundFaults
@@ -142,7 +142,7 @@ pub fn close<S: Rates + Drop, L: LinkBrand, R: Clock + Eprint, K: Keep, O: Telli
     ensures { IsClosing K.kept O.told O.answers ended.locked ended.ends.items ended.clerks.items keep
         output.old output.new ended.found result }
 {
-    let EndedLink {
+    let StoppedLink {
         locked,
         ends,
         clerks,

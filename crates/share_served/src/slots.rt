@@ -9,43 +9,43 @@ use std::alloc::{AllocError, Global};
 use std::marker::{Model, PhantomData};
 use std::sync::{Mutex, Wait};
 
-/// A place for a value that one thread at a time takes and uses.
+/// A slot for a value that one thread at a time takes and uses.
 #[derive(Drop)]
 pub struct Slot<X> {
-    held: Mutex<Option<X>>,
+    inner: Mutex<Option<X>>,
 }
 
 impl<X: Drop> Slot<X> {
-    pub fn new(held: Option<X>) -> Slot<X> {
+    pub fn new(inner: Option<X>) -> Slot<X> {
         Slot {
-            held: Mutex::new(held),
+            inner: Mutex::new(inner),
         }
     }
 
     /// Puts a value in.
     pub fn put<R: Wait>(&self, rt: &R, item: X) {
-        *self.held.lock(rt) = Some(item);
+        *self.inner.lock(rt) = Some(item);
     }
 
     /// Takes the value out, if there is one.
     pub fn take<R: Wait>(&self, rt: &R) -> Option<X> {
-        self.held.lock(rt).take()
+        self.inner.lock(rt).take()
     }
 
     /// The value, if there is one.
     pub fn into_inner(self) -> Option<X> {
-        self.held.into_inner()
+        self.inner.into_inner()
     }
 }
 
 /// An end of the queue of this link.
 #[derive(Drop)]
-pub struct LinkedEnd<L: LinkBrand> {
+pub struct BrandedEnd<L: LinkBrand> {
     end: IngressEnd,
     of: PhantomData<L>,
 }
 
-impl<L: LinkBrand> Model for LinkedEnd<L> {
+impl<L: LinkBrand> Model for BrandedEnd<L> {
     ghost use Rattle.std.specs.Prelude.{◌≡◌};
     ghost use Rattle.share_ingress.specs.Ends.{EndView};
 
@@ -56,12 +56,12 @@ impl<L: LinkBrand> Model for LinkedEnd<L> {
     ghost invariant = { λ l. l.end.link ≡ L.link };
 }
 
-impl<L: LinkBrand> LinkedEnd<L> {
-    pub fn new(end: IngressEnd) -> LinkedEnd<L>
+impl<L: LinkBrand> BrandedEnd<L> {
+    pub fn new(end: IngressEnd) -> BrandedEnd<L>
         requires { end.link ≡ L.link }
         ensures { result ≡ end }
     {
-        LinkedEnd {
+        BrandedEnd {
             end,
             of: PhantomData,
         }
@@ -76,34 +76,34 @@ impl<L: LinkBrand> LinkedEnd<L> {
     }
 }
 
-/// Room for the places of clerks and ends while threads use them, and for lists of them afterwards.
+/// Slots of clerks and ends while threads use them, and for lists of them afterwards.
 #[derive(Drop)]
-pub struct Places<L: LinkBrand> {
+pub struct EmptySlots<L: LinkBrand> {
     pub clerks: Vec<Slot<Clerk<L>>>,
-    pub ends: Vec<Slot<LinkedEnd<L>>>,
+    pub ends: Vec<Slot<BrandedEnd<L>>>,
     pub spare_clerks: Vec<Clerk<L>>,
 }
 
-/// Places for these numbers of ends and clerks.
-pub fn make_places<L: LinkBrand>(
+/// Empty slots for these numbers of ends and clerks.
+pub fn make_slots<L: LinkBrand>(
     alloc: Global,
     ends: usize,
     clerks: usize,
-) -> Result<Places<L>, AllocError>
-    ensures vacant { IfOk result (λ places. (places.ends.items ≡ []) × (places.clerks.items ≡ [])) }
-    ensures room { IfOk result (λ places.
-        (ends ≤ vec_capacity places.ends) × (clerks ≤ vec_capacity places.clerks)) }
+) -> Result<EmptySlots<L>, AllocError>
+    ensures vacant { IfOk result (λ slots. (slots.ends.items ≡ []) × (slots.clerks.items ≡ [])) }
+    ensures room { IfOk result (λ slots.
+        (ends ≤ vec_capacity slots.ends) × (clerks ≤ vec_capacity slots.clerks)) }
 {
     let spare_clerks = Vec::with_capacity(alloc, clerks)?;
-    let places = Vec::with_capacity(alloc, clerks)?;
-    Ok(Places {
-        clerks: places,
+    let slots = Vec::with_capacity(alloc, clerks)?;
+    Ok(EmptySlots {
+        clerks: slots,
         ends: Vec::with_capacity(alloc, ends)?,
         spare_clerks,
     })
 }
 
-/// Makes the clerks of a link, and puts each into a place.
+/// Makes the clerks of a link, and puts each into a slot.
 pub fn with_clerks<W: TellingWriter, S: Rates, L: LinkBrand>(
     alloc: Global,
     locked: &mut Locked<W, S, L>,
@@ -113,7 +113,7 @@ pub fn with_clerks<W: TellingWriter, S: Rates, L: LinkBrand>(
     requires few { locked.old.clerks + count ≤ 8 }
     requires vacant { (vacant.items ≡ []) × (count ≤ vec_capacity vacant) }
     ensures made { locked.new ≡ record locked.old { clerks = locked.old.clerks + count } }
-    ensures places { vec_len result ≡ count }
+    ensures slots { vec_len result ≡ count }
 {
     let mut slots = vacant;
     while slots.len() < count {
@@ -125,27 +125,27 @@ pub fn with_clerks<W: TellingWriter, S: Rates, L: LinkBrand>(
     slots
 }
 
-/// Puts the ends into places, in their order.
+/// Puts the ends into slots, in their order.
 pub fn filled<L: LinkBrand>(
     ends: &mut Vec<IngressEnd>,
-    vacant: Vec<Slot<LinkedEnd<L>>>,
-) -> Vec<Slot<LinkedEnd<L>>>
+    vacant: Vec<Slot<BrandedEnd<L>>>,
+) -> Vec<Slot<BrandedEnd<L>>>
     requires linked { Each (λ e. e.link ≡ L.link) ends.old.items }
     requires vacant { (vacant.items ≡ []) × (vec_len ends.old ≤ vec_capacity vacant) }
     ensures taken { ends.new.items ≡ [] }
-    ensures places { vec_len result ≡ vec_len ends.old }
+    ensures slots { vec_len result ≡ vec_len ends.old }
 {
     let mut slots = vacant;
     while let Some(end) = ends.pop() {
-        slots.push_reserved(Slot::new(Some(LinkedEnd::new(end))));
+        slots.push_reserved(Slot::new(Some(BrandedEnd::new(end))));
     }
     slots.as_mut_slice().reverse();
     slots
 }
 
-/// Takes the ends from their places into a list that has room for them.
-pub fn all_ends<L: LinkBrand>(
-    slots: Vec<Slot<LinkedEnd<L>>>,
+/// Takes the ends from their slots into a list that has room for them.
+pub fn take_ends<L: LinkBrand>(
+    slots: Vec<Slot<BrandedEnd<L>>>,
     spare: Vec<IngressEnd>,
 ) -> Vec<IngressEnd>
     requires { Each (λ e. e.link ≡ L.link) spare.items }
@@ -153,15 +153,18 @@ pub fn all_ends<L: LinkBrand>(
 {
     let mut ends = spare;
     for slot in slots {
-        if let Some(linked) = slot.into_inner() {
-            let _ = ends.push(linked.into_end());
+        if let Some(branded) = slot.into_inner() {
+            let _ = ends.push(branded.into_end());
         }
     }
     ends
 }
 
-/// Takes the clerks from their places into a list that has room for them.
-pub fn all_clerks<L: LinkBrand>(slots: Vec<Slot<Clerk<L>>>, spare: Vec<Clerk<L>>) -> Vec<Clerk<L>> {
+/// Takes the clerks from their slots into a list that has room for them.
+pub fn take_clerks<L: LinkBrand>(
+    slots: Vec<Slot<Clerk<L>>>,
+    spare: Vec<Clerk<L>>,
+) -> Vec<Clerk<L>> {
     let mut clerks = spare;
     for slot in slots {
         if let Some(clerk) = slot.into_inner() {

@@ -12,7 +12,7 @@ const CONNECTIONS: usize = 8;
 struct Count {
     // The number of refusals, and the number printed.
     refused: u64,
-    told: u64,
+    logged: u64,
     // Why the last one was refused.
     last: Refusal,
 }
@@ -57,7 +57,7 @@ impl RefusedPackets {
     pub fn new() -> RefusedPackets {
         let none = Count {
             refused: 0,
-            told: 0,
+            logged: 0,
             last: Refusal::NoMemory,
         };
         RefusedPackets {
@@ -88,11 +88,11 @@ impl RefusedPackets {
     /// time that there are twice as many. So a flood of them makes few lines. At the end all that are left are printed.
     pub fn line(&mut self, at: usize, is_end: bool) -> Option<RefusedLine> {
         let count = self.counts.get_mut(at)?;
-        let is_due = count.refused >= count.told.saturating_mul(2) || is_end;
-        if count.refused == count.told || !is_due {
+        let is_due = count.refused >= count.logged.saturating_mul(2) || is_end;
+        if count.refused == count.logged || !is_due {
             return None;
         }
-        count.told = count.refused;
+        count.logged = count.refused;
         Some(RefusedLine {
             number: at.saturating_add(1),
             refused: count.refused,

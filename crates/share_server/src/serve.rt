@@ -13,8 +13,8 @@ use share_journal::Journal;
 use share_locked::{Clerk, LinkBrand, Locked};
 use share_model::{Rates, TellingWriter};
 use share_served::{
-    Doors, EndedLink, FoundFaults, Fresh, Keep, Places, Plan, Reasons, RunFault, Setting, Sockets,
-    all_clerks, all_ends, close, filled, make_places, set_up, with_clerks,
+    EmptySlots, FoundFaults, Keep, Listeners, NewLink, Plan, Reasons, RunFault, Setup, Sockets,
+    StoppedLink, close, filled, make_slots, set_up, take_clerks, take_ends, with_clerks,
 };
 use std::alloc::Global;
 use std::io::{Eprint, Read};
@@ -51,7 +51,7 @@ where
         ⊎ HasNotBegun journal output.old output.new result }
 {
     match set_up(rt, alloc, shelf, journal, sockets, plan) {
-        Ok(setting) => { serve_as::<R, S, I, K, O, Brand>(rt, alloc, setting, until, keep, output) }
+        Ok(setup) => { serve_as::<R, S, I, K, O, Brand>(rt, alloc, setup, until, keep, output) }
         Err(fault) => {
             drop(until);
             drop(keep);
@@ -64,7 +64,7 @@ where
 fn serve_as<R, S, I, K, O, L>(
     rt: &R,
     alloc: Global,
-    setting: Setting<S>,
+    setup: Setup<S>,
     until: Option<I>,
     keep: K,
     output: &mut O,
@@ -76,23 +76,23 @@ where
     K: Keep + Drop,
     O: TellingWriter,
     L: LinkBrand + Send,
-    requires empty { setting.fresh.recorder.entries ≡ [] }
-    requires version { setting.fresh.recorder.link.live.version ≡ Two }
-    requires link { setting.fresh.intake.link ≡ L.link }
-    requires nothing { setting.fresh.intake.popped ≡ [] }
-    requires linked { Each (λ e. e.link ≡ L.link) setting.fresh.ends.items }
-    requires clerks { setting.clerks ≤ 8 }
+    requires empty { setup.new_link.recorder.entries ≡ [] }
+    requires version { setup.new_link.recorder.link.live.version ≡ Two }
+    requires link { setup.new_link.intake.link ≡ L.link }
+    requires nothing { setup.new_link.intake.popped ≡ [] }
+    requires linked { Each (λ e. e.link ≡ L.link) setup.new_link.ends.items }
+    requires clerks { setup.clerks ≤ 8 }
     ensures { IsRunClosed K.kept O.told O.answers keep output.old output.new result
         ⊎ ((result ≡ Err (bare NoMemory)) × (output.new ≡ output.old)) }
 {
-    match make_places(alloc, setting.fresh.ends.len(), setting.clerks) {
-        Ok(places) => {
-            let ended = serve_all::<R, S, I, L>(rt, alloc, setting, places, until);
+    match make_slots(alloc, setup.new_link.ends.len(), setup.clerks) {
+        Ok(slots) => {
+            let ended = serve_all::<R, S, I, L>(rt, alloc, setup, slots, until);
             let reasons = ended.reasons(rt);
-            told(close(rt, alloc, ended, keep, output), reasons)
+            result_of(close(rt, alloc, ended, keep, output), reasons)
         }
         Err(refused) => {
-            drop(setting);
+            drop(setup);
             drop(until);
             drop(keep);
             Err(RunFault::from(refused))
@@ -101,7 +101,7 @@ where
 }
 
 // The result of a run with these faults and reasons.
-fn told(found: FoundFaults, reasons: Reasons) -> Result<(), RunFault>
+fn result_of(found: FoundFaults, reasons: Reasons) -> Result<(), RunFault>
     ensures result { IsResultOf found result }
     ensures reason { HasItsReason reasons result }
 {
@@ -115,46 +115,46 @@ fn told(found: FoundFaults, reasons: Reasons) -> Result<(), RunFault>
 fn serve_all<R, S, I, L>(
     rt: &R,
     alloc: Global,
-    setting: Setting<S>,
-    places: Places<L>,
+    setup: Setup<S>,
+    slots: EmptySlots<L>,
     until: Option<I>,
-) -> EndedLink<S, L>
+) -> StoppedLink<S, L>
 where
     R: Threads + Wait + Eprint + Copy + Send + Sync + 'static,
     S: Rates + Send + Drop,
     I: Read + Send + Drop + 'static,
     L: LinkBrand + Send,
-    requires empty { setting.fresh.recorder.entries ≡ [] }
-    requires version { setting.fresh.recorder.link.live.version ≡ Two }
-    requires link { setting.fresh.intake.link ≡ L.link }
-    requires nothing { setting.fresh.intake.popped ≡ [] }
-    requires linked { Each (λ e. e.link ≡ L.link) setting.fresh.ends.items }
-    requires clerks { setting.clerks ≤ 8 }
-    requires room { (vec_len setting.fresh.ends ≤ vec_capacity places.ends)
-        × (setting.clerks ≤ vec_capacity places.clerks) }
-    requires vacant { (places.ends.items ≡ []) × (places.clerks.items ≡ []) }
+    requires empty { setup.new_link.recorder.entries ≡ [] }
+    requires version { setup.new_link.recorder.link.live.version ≡ Two }
+    requires link { setup.new_link.intake.link ≡ L.link }
+    requires nothing { setup.new_link.intake.popped ≡ [] }
+    requires linked { Each (λ e. e.link ≡ L.link) setup.new_link.ends.items }
+    requires clerks { setup.clerks ≤ 8 }
+    requires room { (vec_len setup.new_link.ends ≤ vec_capacity slots.ends)
+        × (setup.clerks ≤ vec_capacity slots.clerks) }
+    requires vacant { (slots.ends.items ≡ []) × (slots.clerks.items ≡ []) }
     ensures linked { Each (λ e. e.link ≡ L.link) result.ends.items }
 {
-    let Setting {
-        fresh,
-        doors,
+    let Setup {
+        new_link,
+        listeners,
         clerks: count,
-    } = setting;
-    let Fresh {
+    } = setup;
+    let NewLink {
         recorder,
         intake,
         ends,
-    } = fresh;
-    let Doors {
+    } = new_link;
+    let Listeners {
         ingress,
         control,
         connections,
-    } = doors;
-    let Places {
+    } = listeners;
+    let EmptySlots {
         clerks,
         ends: vacant,
         spare_clerks,
-    } = places;
+    } = slots;
     let mut spare = ends;
     let ends = filled(&mut spare, vacant);
     let mut locked = Locked::new(recorder, intake);
@@ -169,7 +169,7 @@ where
         ends,
     };
     let found = run_until(rt, &server, until);
-    ended_link(server, spare, spare_clerks, found)
+    stopped_link(server, spare, spare_clerks, found)
 }
 
 // Runs all threads until the link has ended, and says which faults there were. If a reader is given, its end ends the
@@ -185,19 +185,19 @@ where
     if let Some(input) = until {
         if !end_at_eof(rt, input, &server.connections) {
             found.thread = true;
-            server.connections.end(rt);
+            server.connections.begin_shutdown(rt);
         }
     }
     run(rt, server, found)
 }
 
 // A link after its service, with its ends and clerks in lists that have room for them.
-fn ended_link<S: Rates + Drop, L: LinkBrand>(
+fn stopped_link<S: Rates + Drop, L: LinkBrand>(
     server: Server<S, L>,
     spare: Vec<IngressEnd>,
     spare_clerks: Vec<Clerk<L>>,
     found: FoundFaults,
-) -> EndedLink<S, L>
+) -> StoppedLink<S, L>
     requires { Each (λ e. e.link ≡ L.link) spare.items }
     ensures { Each (λ e. e.link ≡ L.link) result.ends.items }
 {
@@ -208,10 +208,10 @@ fn ended_link<S: Rates + Drop, L: LinkBrand>(
         ends,
         ..
     } = server;
-    EndedLink {
+    StoppedLink {
         locked: port.into_inner(),
-        ends: all_ends(ends, spare),
-        clerks: all_clerks(clerks, spare_clerks),
+        ends: take_ends(ends, spare),
+        clerks: take_clerks(clerks, spare_clerks),
         connections,
         found,
     }

@@ -6,7 +6,7 @@ use share_control::{Attended, How, attend};
 use share_locked::{Attendant, Clerk, LinkBrand, LinkEnd, Port, serve_while};
 use share_model::{PlainReader, PlainWriter, Rates};
 use share_script::IncomingLines;
-use share_served::{FoundFaults, LinkedEnd, Slot, why_text, work};
+use share_served::{BrandedEnd, FoundFaults, Slot, why_text, work};
 use std::alloc::Global;
 use std::io::{Eprint, ErrorKind};
 use std::net::{TcpListener, TcpStream};
@@ -44,7 +44,7 @@ impl<'a, R: Wait + Eprint, S: Rates, L: LinkBrand> Teller<'a, R, S, L> {
         drop(locked);
         for at in 0..self.server.ends.len() {
             if let Some(line) = refused.line(at, is_end) {
-                connections.tell(self.rt, line);
+                connections.log(self.rt, line);
             }
         }
         drop(refused);
@@ -52,8 +52,8 @@ impl<'a, R: Wait + Eprint, S: Rates, L: LinkBrand> Teller<'a, R, S, L> {
 }
 
 impl<'a, R: Wait + Eprint, S: Rates, L: LinkBrand> Attendant for Teller<'a, R, S, L> {
-    fn rests(&self) {
-        self.server.connections.rests();
+    fn idles(&self) {
+        self.server.connections.idles();
         self.tell_refused(false);
     }
 
@@ -74,7 +74,7 @@ pub struct Server<S: Rates, L: LinkBrand> {
     // The clerk for each control connection.
     pub clerks: Vec<Slot<Clerk<L>>>,
     // The end of the queue for each ingress connection.
-    pub ends: Vec<Slot<LinkedEnd<L>>>,
+    pub ends: Vec<Slot<BrandedEnd<L>>>,
 }
 
 impl<S: Rates, L: LinkBrand> Server<S, L> {
@@ -120,7 +120,7 @@ fn serve_control<R: Wait + Eprint, S: Rates, L: LinkBrand>(
     };
     let Attended { how, clerk } = answer(rt, server, stream, clerk);
     let count = clerk.receipts().len();
-    server.connections.tell(
+    server.connections.log(
         rt,
         format_args!("control {number}: ended, {how:?}, {count} commands"),
     );
@@ -133,14 +133,14 @@ fn serve_ingress<R: Wait + Eprint, S: Rates, L: LinkBrand>(
     server: &Server<S, L>,
     number: usize,
     stream: &TcpStream,
-    slot: &Slot<LinkedEnd<L>>,
+    slot: &Slot<BrandedEnd<L>>,
 ) {
     let Some(end) = slot.take(rt) else {
         return;
     };
     let (end, why, tally) = work(rt, server.alloc, &server.connections, number, stream, end);
     let text = why_text(why);
-    server.connections.tell(
+    server.connections.log(
         rt,
         format_args!("ingress {number}: ended, {text}, {tally} packets"),
     );
@@ -194,7 +194,7 @@ fn accept<R: Wait + Eprint, S: Rates, L: LinkBrand>(
             } else {
                 found.accept = true;
             }
-            server.connections.end(rt);
+            server.connections.begin_shutdown(rt);
             None
         }
     }
@@ -214,14 +214,14 @@ fn accepted<R: Wait + Eprint, S: Rates, L: LinkBrand>(
     let count = server.count(kind);
     server
         .connections
-        .tell(rt, format_args!("waiting for {word} {number} of {count}"));
+        .log(rt, format_args!("waiting for {word} {number} of {count}"));
     let accepted = listener.accept();
     if server.connections.is_ending() {
         drop(accepted);
         return Ok(None);
     }
     let (stream, address) = accepted?;
-    server.connections.tell(
+    server.connections.log(
         rt,
         format_args!("{word} {number}: connected from {address}"),
     );
@@ -254,7 +254,7 @@ fn refuse<R: Wait, S: Rates, L: LinkBrand>(
     number: usize,
 ) {
     server.connections.remove(rt, kind, number);
-    server.connections.end(rt);
+    server.connections.begin_shutdown(rt);
 }
 
 // Accepts the connections of a kind, and starts a thread for each.
@@ -303,14 +303,14 @@ where
         let connections = &*server.connections;
         if !is_served {
             found.thread = true;
-            connections.end(rt);
+            connections.begin_shutdown(rt);
         }
         accept_kind(scope, rt, server, Kind::Control, &mut found);
         accept_kind(scope, rt, server, Kind::Ingress, &mut found);
-        connections.tell(rt, "waiting for all connections to end");
+        connections.log(rt, "waiting for all connections to end");
         connections.wait(rt);
-        connections.tell(rt, "the stop is set");
-        connections.tell(rt, "waiting for what is left to be sent");
+        connections.log(rt, "the stop is set");
+        connections.log(rt, "waiting for what is left to be sent");
         found
     })
 }
@@ -329,7 +329,7 @@ where
         let watch = scope.spawn(move || connections.watch(rt));
         if watch.is_err() {
             found.thread = true;
-            connections.end(rt);
+            connections.begin_shutdown(rt);
         }
         let (end, mut found) = serve_while(
             rt,

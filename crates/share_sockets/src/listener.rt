@@ -63,21 +63,13 @@ impl Listener {
     }
 
     /// The next connection, and the address that it comes from if that is over TCP. `WouldBlock` if none waits.
-    pub fn accept_from(&self) -> io::Result<(Stream, Option<SocketAddr>)> {
+    pub fn accept(&self) -> io::Result<(Stream, Option<SocketAddr>)> {
         match self {
             Listener::Tcp(listener) => {
                 let (stream, address) = listener.accept()?;
                 Ok((Stream::Tcp(stream), Some(address)))
             }
             Listener::Unix(listener) => Ok((Stream::Unix(listener.accept()?.0), None)),
-        }
-    }
-
-    /// The next connection, or `WouldBlock` if none waits.
-    pub fn accept(&self) -> io::Result<Stream> {
-        match self {
-            Listener::Tcp(listener) => Ok(Stream::Tcp(listener.accept()?.0)),
-            Listener::Unix(listener) => Ok(Stream::Unix(listener.accept()?.0)),
         }
     }
 }

@@ -1,10 +1,10 @@
 //! The dynamic stride queue: which flow of a link is served next, in proportion to the tickets of those that compete.
 #![tactic(auto)]
 
+mod cached_stride;
 mod client;
 mod heap;
 mod index;
-mod known;
 mod laws;
 mod moves;
 mod queue;

@@ -6,14 +6,14 @@ ghost use Rattle.share_model.specs.stride.Moves.{charge as model_charge};
 ghost use Rattle.share_stride.specs.Table.{IsClientKeyIn, client_at};
 ghost use Rattle.share_stride.specs.Queue.{state_of, AreInStep, after_update};
 
+use crate::cached_stride::CachedStride;
 use crate::client;
-use crate::known::KnownStride;
 use crate::table::{ClientKey, Table};
 use share_model::GlobalPart;
 
 // Moves the global pass on by what was charged since the last update. When many clients are levelled at once, that is
 // mostly nothing.
-fn update(global: &mut GlobalPart, known: &mut KnownStride)
+fn update(global: &mut GlobalPart, cached: &mut CachedStride)
     requires time { global.old.last ≤ global.old.clock }
     requires pass { global.old.pass ≤ 2 ^ 80 }
     ensures { global.new ≡ after_update global.old }
@@ -21,7 +21,7 @@ fn update(global: &mut GlobalPart, known: &mut KnownStride)
     if global.last == global.clock {
         return;
     }
-    let stride = known.of(global.tickets);
+    let stride = cached.of(global.tickets);
     global.pass += client::share(stride, global.clock - global.last);
     global.last = global.clock;
 }
@@ -30,7 +30,7 @@ fn update(global: &mut GlobalPart, known: &mut KnownStride)
 pub(crate) fn join(
     clients: &mut Table,
     global: &mut GlobalPart,
-    known: &mut KnownStride,
+    cached: &mut CachedStride,
     place: ClientKey,
     tickets: u32,
 )
@@ -44,7 +44,7 @@ pub(crate) fn join(
     ensures joined { state_of clients.new global.new
         ≡ model_join (state_of clients.old global.old) place.flow tickets }
 {
-    update(global, known);
+    update(global, cached);
     clients.enter(place, global.pass, tickets);
     global.tickets += u64::from(tickets);
 }
@@ -53,7 +53,7 @@ pub(crate) fn join(
 pub(crate) fn leave(
     clients: &mut Table,
     global: &mut GlobalPart,
-    known: &mut KnownStride,
+    cached: &mut CachedStride,
     place: ClientKey,
 )
     requires place { IsClientKeyIn clients.old place }
@@ -64,7 +64,7 @@ pub(crate) fn leave(
     ensures left { state_of clients.new global.new
         ≡ model_leave (state_of clients.old global.old) place.flow }
 {
-    update(global, known);
+    update(global, cached);
     global.tickets -= u64::from(clients.leave(place, global.pass));
 }
 
@@ -72,7 +72,7 @@ pub(crate) fn leave(
 pub(crate) fn modify(
     clients: &mut Table,
     global: &mut GlobalPart,
-    known: &mut KnownStride,
+    cached: &mut CachedStride,
     place: ClientKey,
     tickets: u32,
 )
@@ -86,7 +86,7 @@ pub(crate) fn modify(
     ensures modified { state_of clients.new global.new
         ≡ model_modify (state_of clients.old global.old) place.flow tickets }
 {
-    update(global, known);
+    update(global, cached);
     let before = clients.modify(place, global.pass, tickets);
     global.tickets = global.tickets - u64::from(before) + u64::from(tickets);
 }

@@ -9,7 +9,7 @@ ghost use Rattle.share_model.specs.stride.Moves.{charge as model_charge};
 ghost use Rattle.share_model.specs.stride.Level.{level_one};
 ghost use Rattle.share_model.specs.stride.Bound.{IsSound, IsNearGlobalPass};
 
-use crate::known::KnownStride;
+use crate::cached_stride::CachedStride;
 use crate::table::{MAX_CLIENTS, Table};
 use crate::{client, moves};
 use share_base::{FlowNo, Refusal};
@@ -28,7 +28,7 @@ use std::marker::Model;
 pub struct Queue {
     clients: Table,
     global: GlobalPart,
-    known: KnownStride,
+    cached: CachedStride,
 }
 
 impl Drop for Queue {
@@ -36,10 +36,10 @@ impl Drop for Queue {
         let Queue {
             clients,
             global: _,
-            known,
+            cached,
         } = self;
         drop(clients);
-        drop(known);
+        drop(cached);
     }
 }
 
@@ -71,7 +71,7 @@ impl Queue {
                 last: 0,
                 clock: 0,
             },
-            known: KnownStride::new(),
+            cached: CachedStride::new(),
         })
     }
 
@@ -106,7 +106,7 @@ impl Queue {
             Some(place) => moves::join(
                 &mut self.clients,
                 &mut self.global,
-                &mut self.known,
+                &mut self.cached,
                 place,
                 tickets,
             ),
@@ -125,7 +125,7 @@ impl Queue {
             Some(place) => moves::leave(
                 &mut self.clients,
                 &mut self.global,
-                &mut self.known,
+                &mut self.cached,
                 place,
             ),
         }
@@ -144,7 +144,7 @@ impl Queue {
             Some(place) => moves::modify(
                 &mut self.clients,
                 &mut self.global,
-                &mut self.known,
+                &mut self.cached,
                 place,
                 tickets,
             ),
@@ -166,17 +166,17 @@ impl Queue {
                     moves::join(
                         &mut self.clients,
                         &mut self.global,
-                        &mut self.known,
+                        &mut self.cached,
                         place,
                         tickets,
                     );
                 } else if client.competes && tickets == 0 {
-                    moves::leave(&mut self.clients, &mut self.global, &mut self.known, place);
+                    moves::leave(&mut self.clients, &mut self.global, &mut self.cached, place);
                 } else if client.competes && client.tickets != tickets {
                     moves::modify(
                         &mut self.clients,
                         &mut self.global,
-                        &mut self.known,
+                        &mut self.cached,
                         place,
                         tickets,
                     );

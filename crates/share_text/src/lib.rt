@@ -22,4 +22,5 @@ pub use spelled::{
     MAX_SEND_LINE, MAX_SHORT_LINE, spelled_command, spelled_length, spelled_send, spelled_turn,
 };
 pub use text::{MAX_DIGITS, ShortText, Text};
+pub use words::Words;
 pub use writing::{write_event, write_line, write_reply, write_turn};

@@ -14,17 +14,17 @@ const MAX_OUTCOME: usize = 100;
 /// Adds the text of an outcome and a line feed.
 #[inline(always)]
 pub fn push_line<T: Text>(text: &mut T, outcome: &Outcome)
-    requires { length (T.held text.old) + MAX_ANSWER ≤ T.room }
-    ensures { T.held text.new ≡ T.held text.old ++ line_text outcome.now }
+    requires { length (T.contents text.old) + MAX_ANSWER ≤ T.room }
+    ensures { T.contents text.new ≡ T.contents text.old ++ line_text outcome.now }
 {
     push_outcome(text, outcome);
     text.push_str("\n");
 }
 
 fn push_outcome<T: Text>(text: &mut T, outcome: &Outcome)
-    requires { length (T.held text.old) + MAX_OUTCOME ≤ T.room }
-    ensures bytes { T.held text.new ≡ T.held text.old ++ outcome_text outcome.now }
-    ensures few { length (T.held text.new) ≤ length (T.held text.old) + MAX_OUTCOME }
+    requires { length (T.contents text.old) + MAX_OUTCOME ≤ T.room }
+    ensures bytes { T.contents text.new ≡ T.contents text.old ++ outcome_text outcome.now }
+    ensures few { length (T.contents text.new) ≤ length (T.contents text.old) + MAX_OUTCOME }
 {
     match outcome {
         Outcome::Replied(reply) => push_reply(text, reply),
@@ -33,9 +33,9 @@ fn push_outcome<T: Text>(text: &mut T, outcome: &Outcome)
 }
 
 fn push_reply<T: Text>(text: &mut T, reply: &Reply)
-    requires { length (T.held text.old) + MAX_OUTCOME ≤ T.room }
-    ensures bytes { T.held text.new ≡ T.held text.old ++ reply_text reply.now }
-    ensures few { length (T.held text.new) ≤ length (T.held text.old) + MAX_OUTCOME }
+    requires { length (T.contents text.old) + MAX_OUTCOME ≤ T.room }
+    ensures bytes { T.contents text.new ≡ T.contents text.old ++ reply_text reply.now }
+    ensures few { length (T.contents text.new) ≤ length (T.contents text.old) + MAX_OUTCOME }
 {
     match reply {
         Reply::Done => text.push_str("ok"),
@@ -70,9 +70,9 @@ fn push_reply<T: Text>(text: &mut T, reply: &Reply)
 }
 
 fn push_turn<T: Text>(text: &mut T, turn: &Turn)
-    requires { length (T.held text.old) + MAX_OUTCOME ≤ T.room }
-    ensures bytes { T.held text.new ≡ T.held text.old ++ turn_text turn.now }
-    ensures few { length (T.held text.new) ≤ length (T.held text.old) + MAX_OUTCOME }
+    requires { length (T.contents text.old) + MAX_OUTCOME ≤ T.room }
+    ensures bytes { T.contents text.new ≡ T.contents text.old ++ turn_text turn.now }
+    ensures few { length (T.contents text.new) ≤ length (T.contents text.old) + MAX_OUTCOME }
 {
     match turn {
         Turn::Wrote {
@@ -105,9 +105,9 @@ fn push_turn<T: Text>(text: &mut T, turn: &Turn)
 }
 
 fn push_refusal<T: Text>(text: &mut T, refusal: Refusal)
-    requires { length (T.held text.old) + MAX_OUTCOME ≤ T.room }
-    ensures bytes { T.held text.new ≡ T.held text.old ++ refusal_text refusal }
-    ensures few { length (T.held text.new) ≤ length (T.held text.old) + MAX_OUTCOME }
+    requires { length (T.contents text.old) + MAX_OUTCOME ≤ T.room }
+    ensures bytes { T.contents text.new ≡ T.contents text.old ++ refusal_text refusal }
+    ensures few { length (T.contents text.new) ≤ length (T.contents text.old) + MAX_OUTCOME }
 {
     text.push_str(refusal_text(refusal));
 }

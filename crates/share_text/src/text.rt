@@ -14,22 +14,22 @@ pub const MAX_DIGITS: usize = 20;
 /// Text that is put together in a room of `N` bytes.
 pub trait Text {
     /// Its bytes.
-    ghost held: { Self → List ℕ };
+    ghost contents: { Self → List ℕ };
 
     /// The number of bytes that it has room for.
     ghost room: { ℕ };
 
     /// Adds a text at the end.
     fn push_str(&mut self, text: &str)
-        requires { length (held self.old) + length text.now ≤ room }
-        ensures bytes { held self.new ≡ held self.old ++ text.now }
-        ensures long { length (held self.new) ≡ length (held self.old) + length text.now };
+        requires { length (contents self.old) + length text.now ≤ room }
+        ensures bytes { contents self.new ≡ contents self.old ++ text.now }
+        ensures long { length (contents self.new) ≡ length (contents self.old) + length text.now };
 
     /// Adds the decimal of a number at the end: 20 bytes at most.
     fn push_number(&mut self, number: u64)
-        requires { length (held self.old) + MAX_DIGITS ≤ room }
-        ensures bytes { held self.new ≡ held self.old ++ decimal number }
-        ensures few { length (held self.new) ≤ length (held self.old) + MAX_DIGITS };
+        requires { length (contents self.old) + MAX_DIGITS ≤ room }
+        ensures bytes { contents self.new ≡ contents self.old ++ decimal number }
+        ensures few { length (contents self.new) ≤ length (contents self.old) + MAX_DIGITS };
 }
 
 /// A text of at most `N` bytes, which takes no memory. A contract sees it as its bytes.
@@ -76,7 +76,7 @@ impl<const N: usize> ShortText<N> {
 }
 
 impl<const N: usize> Text for ShortText<N> {
-    ghost held = { λ text. text };
+    ghost contents = { λ text. text };
 
     ghost room = { N };
 

@@ -5,7 +5,7 @@ use Rattle.share_sockets.specs.declared.progress.Progress.{Progress}
 use Rattle.share_sockets.specs.declared.progress.Progress.TheVariants.{Moved, Again, Waits, Over}
 use Rattle.share_transit.specs.Transit.{TransitView}
 use Rattle.share_uplink.specs.declared.state.Work.{Work}
-use Rattle.share_uplink.specs.declared.state.Work.TheVariants.{Rests, Busy, Connected, Lost, Unreachable}
+use Rattle.share_uplink.specs.declared.state.Work.TheVariants.{Idle, Busy, Connected, Lost, Unreachable}
 
 -- the wire took bytes, piece by piece, each time of those that were ready, and nothing else changed
 pub data WireTakes : TransitView → TransitView → Type 0 where
@@ -31,7 +31,7 @@ pub data SendsFrames : TransitView → TransitView → Type 0 where
 
 -- on a new connection the outbox begins again, and a dial that failed changes nothing; otherwise the wire took bytes
 abbrev pub UplinkWorks : TransitView → Work → TransitView → Type 0
-UplinkWorks before Rests after = WireTakes before after
+UplinkWorks before Idle after = WireTakes before after
 UplinkWorks before Busy after = WireTakes before after
 UplinkWorks before Connected after = after ≡ record before { outbox = begun_again before.outbox }
 UplinkWorks before Lost after = WireTakes before after

@@ -12,7 +12,7 @@ use Rattle.share_transit.specs.Transit.{TransitView}
 use Rattle.share_uplink.specs.declared.state.UplinkState.{UplinkState}
 use Rattle.share_uplink.specs.declared.state.UplinkState.TheVariants.{Up, Dialling}
 use Rattle.share_uplink.specs.declared.state.Work.{Work}
-use Rattle.share_uplink.specs.declared.state.Work.TheVariants.{Rests, Busy, Connected, Lost, Unreachable}
+use Rattle.share_uplink.specs.declared.state.Work.TheVariants.{Idle, Busy, Connected, Lost, Unreachable}
 
 -- the address, and the size that is asked for its send buffer. Then comes whether it is connected, and if not, whether
 -- a dial began. Then come since when either is so, or otherwise when it is dialled, and the milliseconds of the pause
@@ -144,17 +144,17 @@ pub record Gives (u : UplinkView) (n : ℕ) (v : UplinkView) (after : TransitVie
 -- The work that the states allow. One that is connected was given bytes, or was given bytes and lost. One that is
 -- not is connected or was not reached once a dial ends, and nothing changes before.
 abbrev pub Works : UplinkState → Bool → ℕ → UplinkView → ℕ → Work → UplinkView → TransitView → Type 0
-Works Up ends now u n Rests v after = Gives u n v after false
+Works Up ends now u n Idle v after = Gives u n v after false
 Works Up ends now u n Busy v after = Gives u n v after true
 Works Up ends now u n Connected v after = ⊥
 Works Up ends now u n Lost v after = (kind : ErrorKind) × (v ≡ after_loss kind now (given_more n u))
 Works Up ends now u n Unreachable v after = ⊥
-Works Dialling false now u n Rests v after = v ≡ u
+Works Dialling false now u n Idle v after = v ≡ u
 Works Dialling false now u n Busy v after = ⊥
 Works Dialling false now u n Connected v after = ⊥
 Works Dialling false now u n Lost v after = ⊥
 Works Dialling false now u n Unreachable v after = ⊥
-Works Dialling true now u n Rests v after = ⊥
+Works Dialling true now u n Idle v after = ⊥
 Works Dialling true now u n Busy v after = ⊥
 Works Dialling true now u n Connected v after = v ≡ connected now u
 Works Dialling true now u n Lost v after = ⊥
@@ -170,22 +170,22 @@ UplinkCounts u before now work v after =
 -- The effect of time: nothing to one that is connected, and nothing before it is due. Then a dial begins or fails,
 -- and one that began is given up.
 abbrev pub Ticks : UplinkState → Bool → Bool → ℕ → UplinkView → Work → UplinkView → Type 0
-Ticks Up due dials now u Rests v = v ≡ u
+Ticks Up due dials now u Idle v = v ≡ u
 Ticks Up due dials now u Busy v = ⊥
 Ticks Up due dials now u Connected v = ⊥
 Ticks Up due dials now u Lost v = ⊥
 Ticks Up due dials now u Unreachable v = ⊥
-Ticks Dialling false dials now u Rests v = v ≡ u
+Ticks Dialling false dials now u Idle v = v ≡ u
 Ticks Dialling false dials now u Busy v = ⊥
 Ticks Dialling false dials now u Connected v = ⊥
 Ticks Dialling false dials now u Lost v = ⊥
 Ticks Dialling false dials now u Unreachable v = ⊥
-Ticks Dialling true false now u Rests v = v ≡ dialled now u
+Ticks Dialling true false now u Idle v = v ≡ dialled now u
 Ticks Dialling true false now u Busy v = ⊥
 Ticks Dialling true false now u Connected v = ⊥
 Ticks Dialling true false now u Lost v = ⊥
 Ticks Dialling true false now u Unreachable v = (kind : ErrorKind) × (v ≡ not_reached kind now u)
-Ticks Dialling true true now u Rests v = ⊥
+Ticks Dialling true true now u Idle v = ⊥
 Ticks Dialling true true now u Busy v = ⊥
 Ticks Dialling true true now u Connected v = ⊥
 Ticks Dialling true true now u Lost v = ⊥

@@ -84,7 +84,7 @@ pub enum UplinkState {
 #[derive(Clone, Copy, Debug, PartialEq, Eq)]
 pub enum Work {
     /// Nothing is left to do before its socket is ready again, or more may go on the wire.
-    Rests,
+    Idle,
     /// More may be done at once.
     Busy,
     /// It was connected in this call.

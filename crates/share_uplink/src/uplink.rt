@@ -8,7 +8,7 @@ ghost use Rattle.share_uplink.specs.Uplink.{UplinkCounts, UplinkTicks};
 ghost use Rattle.share_uplink.specs.Uplink.{after_loss, capped, given_more, is_due, kind_of, later as later_by};
 ghost use Rattle.share_uplink.specs.Uplink.{new_uplink, not_reached, noted, time_left, waits};
 ghost use Rattle.share_uplink.specs.declared.state.UplinkState.TheVariants.{Up, Dialling};
-ghost use Rattle.share_uplink.specs.declared.state.Work.TheVariants.{Rests};
+ghost use Rattle.share_uplink.specs.declared.state.Work.TheVariants.{Idle};
 ghost use Rattle.share_uplink.specs.declared.uplink.Due.TheVariants.{Nothing, Dial, GiveUp};
 
 use crate::passing::{Ready, exchange, has_work};
@@ -194,19 +194,19 @@ impl Uplink {
         }
     }
 
-    /// Dials if it is time to, and gives up a dial that takes too long. Returns `Rests` or `Unreachable`.
+    /// Dials if it is time to, and gives up a dial that takes too long. Returns `Idle` or `Unreachable`.
     pub fn tick(&mut self, net: &impl Net, registry: &Registry, token: Token, now: Instant) -> Work
         ensures { UplinkTicks self.old (instant_nanos now) result self.new }
     {
         match self.due(now) {
-            Due::Nothing => Work::Rests,
+            Due::Nothing => Work::Idle,
             Due::Dial => self.dial(net, registry, token, now),
             Due::GiveUp => self.miss(now, no_answer()),
         }
     }
 
     fn due(&self, now: Instant) -> Due
-        ensures nothing { result ≡ Nothing → UplinkTicks self.now (instant_nanos now) Rests self.now }
+        ensures nothing { result ≡ Nothing → UplinkTicks self.now (instant_nanos now) Idle self.now }
         ensures state { result ≡ Dial → self.now.state ≡ Dialling }
         ensures dials { result ≡ Dial → self.now.dials ≡ false }
         ensures due { result ≡ Dial → is_due (instant_nanos now) self.now ≡ true }
@@ -251,7 +251,7 @@ impl Uplink {
             Ok(socket) => {
                 self.ready = NOT_READY;
                 self.state = State::Dialling(socket, now);
-                Work::Rests
+                Work::Idle
             }
         }
     }
@@ -303,7 +303,7 @@ impl Uplink {
         ensures counts { UplinkCounts self.old transit.old (instant_nanos now) result self.new transit.new }
     {
         match &self.state {
-            State::Away(_) => Work::Rests,
+            State::Away(_) => Work::Idle,
             State::Dialling(..) => self.finish_dial(transit, now),
             State::Up(..) => self.pass(transit, now),
         }
@@ -317,13 +317,13 @@ impl Uplink {
         ensures counts { UplinkCounts self.old transit.old (instant_nanos now) result self.new transit.new }
     {
         if !self.ready.writes {
-            return Work::Rests;
+            return Work::Idle;
         }
         if let Some(fault) = self.state.fault() {
             return self.miss(now, fault);
         }
         if !self.state.connect(now) {
-            return Work::Rests;
+            return Work::Idle;
         }
         self.given = 0;
         transit.again();
@@ -337,7 +337,7 @@ impl Uplink {
         ensures counts { UplinkCounts self.old transit.old (instant_nanos now) result self.new transit.new }
     {
         let State::Up(socket, _) = &self.state else {
-            return Work::Rests;
+            return Work::Idle;
         };
         let waiting = transit.waiting();
         let outcome = exchange(socket, self.ready, transit);
@@ -349,7 +349,7 @@ impl Uplink {
                 if has_work(ready, transit) {
                     Work::Busy
                 } else {
-                    Work::Rests
+                    Work::Idle
                 }
             }
         }

@@ -1,12 +1,13 @@
 //! The bill of one book beside its row.
 
 use crate::book_text::{RunBook, run_file};
-use crate::faults::{BookFault, CutLine};
+use crate::faults::BookFault;
 use crate::given_files::tariffs_path;
 use crate::rows_file::{bytes_of, say};
 use share_bill::{NotBilled, TenantTotal, add_rows};
+use share_billing::CutLine;
 use share_catalog::{BookTariff, Mismatch, Row};
-use share_model::Rate;
+use share_disk::rates_of;
 use share_tariff::PlainShelf;
 use share_verification::{BookFigures, first_mismatch, read_tariffs, row_of};
 use std::alloc::{AllocError, Global};
@@ -19,19 +20,6 @@ use std::{fs, io};
 pub(crate) struct GivenBook<'a> {
     pub(crate) path: &'a str,
     pub(crate) number: u64,
-}
-
-// The tariffs of a book as a link knows them.
-fn rates_of(alloc: Global, tariffs: &[BookTariff]) -> Result<Vec<Rate>, AllocError> {
-    let mut rates = Vec::with_capacity(alloc, tariffs.len())?;
-    for tariff in tariffs {
-        rates.push(Rate {
-            cell: tariff.cell,
-            overhead: tariff.overhead,
-            price: tariff.price,
-        })?;
-    }
-    Ok(rates)
 }
 
 // The shelf of the tariffs of a book, which has some.

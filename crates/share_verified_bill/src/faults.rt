@@ -121,24 +121,6 @@ fn reason_of(fault: BookFault) -> &'static str {
     }
 }
 
-/// The line on standard error for a file that ends in a line without its line feed.
-#[derive(Clone, Copy, Debug)]
-pub(crate) struct CutLine<'a> {
-    pub(crate) path: &'a str,
-    pub(crate) number: u64,
-}
-
-impl<'a> Display for CutLine<'a> {
-    fn fmt<W: fmt::Write>(&self, f: &mut Formatter<W>) -> fmt::Result {
-        let CutLine { path, number } = *self;
-        let path = Shown(path);
-        write!(
-            f,
-            "{path}:{number}: the last line has no line feed, and is left out"
-        )
-    }
-}
-
 /// The line on standard error for a row whose text is not a run.
 #[derive(Clone, Copy, Debug)]
 pub(crate) struct BadLine<'a> {

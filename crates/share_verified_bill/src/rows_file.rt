@@ -1,7 +1,7 @@
 //! The file of the rows.
 
-use crate::faults::{BadLine, BookFault, CutLine, FaultLine};
-use share_billing::NotShown;
+use crate::faults::{BadLine, BookFault, FaultLine};
+use share_billing::{CutLine, NotShown};
 use share_catalog::{Row, whole_lines};
 use share_verification::{NotRows, is_bad, read_rows};
 use std::alloc::Global;

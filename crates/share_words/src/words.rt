@@ -51,9 +51,9 @@ const AUDIT_HELP: &str = "where the audit is written at the end";
 
 const FORCE_HELP: &str = "let the audit replace a file that exists";
 
-const UNTIL_EOF_HELP: &str = "end all connections where standard input ends";
+const UNTIL_EOF_HELP: &str = "close all connections at the end of standard input";
 
-const VERBOSE_HELP: &str = "tell on standard error what happens";
+const VERBOSE_HELP: &str = "print what happens on standard error";
 
 // A word that is given or not.
 fn flag<'a>(alloc: Global, name: &'a str, help: &'a str) -> Arg<'a> {

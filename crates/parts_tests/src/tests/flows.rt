@@ -3,14 +3,14 @@
 ghost use Rattle.std.specs.Prelude.{◌≡◌, ◌<◌, ◌^◌, false, length, IfSome, IsTrue};
 ghost use Rattle.share_base.specs.Body.{IsHeaderLength};
 ghost use Rattle.share_model.specs.link.Buffers.{buffer_of, is_full};
-ghost use Rattle.share_flows.specs.Places.{Stands};
+ghost use Rattle.share_flows.specs.BufferHandles.{Stands};
 
 use crate::tests::allocator::{
     is_steered, keeps_none, lack, mark, refuse, took_none, was_answered, was_refused,
 };
 use crate::tests::assertions::{holds, same};
 use share_base::{Body, FlowNo, Refusal, ZeroFrame};
-use share_flows::{Buffers, Place};
+use share_flows::{BufferHandle, Buffers};
 use share_model::Backlog;
 use std::alloc::Global;
 use std::process::Abort;
@@ -27,9 +27,9 @@ enum Row {
     Head(u32, Option<(u32, u8)>),
     /// The head packet is taken out.
     Pop(u32, Option<u8>),
-    /// A packet is put in at the flow's place, and the head packet and its number are taken out.
+    /// A packet is put in by the handle of the flow's buffer, and the head packet and its number are taken out.
     Through(u32, u8, Option<(u32, u8)>),
-    /// A header is stamped before the head packet, by the flow and at its place.
+    /// A header is stamped before the head packet, by the flow and by the handle of its buffer.
     Stamp(u32, &'static [u8]),
     StampAt(u32, &'static [u8]),
     /// The bytes stamped before the head packet, and its payload; no bytes if there is no packet.
@@ -86,35 +86,35 @@ fn pop(buffers: &mut Buffers, flow: FlowNo) -> Option<u8> {
     Some(byte_of(&buffers.pop(flow)))
 }
 
-// The number of the head packet at a place, and 0 if there is none.
-fn number_at(buffers: &Buffers, place: &Place) -> u32
-    requires { Stands buffers.now place.now }
+// The number of the head packet of a handle's buffer, and 0 if there is none.
+fn number_at(buffers: &Buffers, handle: &BufferHandle) -> u32
+    requires { Stands buffers.now handle.now }
 {
-    match buffers.head_at(place) {
+    match buffers.head_at(handle) {
         None => 0,
         Some((number, _)) => number,
     }
 }
 
-fn through_at(buffers: &mut Buffers, place: &Place, body: Body) -> Option<(u32, u8)>
-    requires there { Stands buffers.old place.now }
-    requires numbers { IfSome (buffer_of buffers.old place.now.flow)
+fn through_at(buffers: &mut Buffers, handle: &BufferHandle, body: Body) -> Option<(u32, u8)>
+    requires there { Stands buffers.old handle.now }
+    requires numbers { IfSome (buffer_of buffers.old handle.now.flow)
         (λ b. is_full b ≡ false → b.next < 2 ^ 32) }
 {
-    if buffers.push_at(place, body).is_err() || !buffers.is_busy_at(place) {
+    if buffers.push_at(handle, body).is_err() || !buffers.is_busy_at(handle) {
         return None;
     }
-    let number = number_at(buffers, place);
-    let taken = buffers.pop_at(place);
+    let number = number_at(buffers, handle);
+    let taken = buffers.pop_at(handle);
     Some((number, byte_of(&taken)))
 }
 
 fn through(buffers: &mut Buffers, flow: FlowNo, body: Body) -> Option<(u32, u8)> {
-    let place = buffers.find(flow)?;
+    let handle = buffers.find(flow)?;
     if buffers.next_number(flow) > 4_294_967_295 {
         return None;
     }
-    through_at(buffers, &place, body)
+    through_at(buffers, &handle, body)
 }
 
 // Whether a header is as long.
@@ -133,13 +133,13 @@ fn stamp(buffers: &mut Buffers, flow: FlowNo, header: &[u8]) -> bool {
 }
 
 fn stamp_at(buffers: &mut Buffers, flow: FlowNo, header: &[u8]) -> bool {
-    let Some(place) = buffers.find(flow) else {
+    let Some(handle) = buffers.find(flow) else {
         return false;
     };
-    if !buffers.is_busy_at(&place) || !is_header(header) {
+    if !buffers.is_busy_at(&handle) || !is_header(header) {
         return false;
     }
-    buffers.stamp_at(&place, header);
+    buffers.stamp_at(&handle, header);
     true
 }
 
@@ -202,7 +202,7 @@ const OPENED: [Row; 13] = [
     Row::Shows(9, Some((0, 1024))),
 ];
 
-/// These calls take no memory. A refused packet takes no number, a place is of its flow, and a header replaces the one
+/// These calls take no memory. A refused packet takes no number, a handle is of its flow, and a header replaces the one
 /// before it.
 const USED: [Row; 30] = [
     Row::Open(2, 0, Some(Err(Refusal::Range))),

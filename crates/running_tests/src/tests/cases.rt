@@ -7,7 +7,7 @@ use super::assertions::{holds, same};
 use super::made::name;
 use super::session::plays;
 use super::stage::{
-    Books, LinkedEnd, NewLink, Slot, Stage, Without, new_link, settled, staged, unsettled,
+    Books, BrandedEnd, NewLink, Slot, Stage, Without, new_link, settled, staged, unsettled,
 };
 use crate::ByByte;
 use share_base::Event;
@@ -307,7 +307,7 @@ fn works<T: Abort + Wait, L: LinkBrand>(
     } = done;
     drop(gate);
     drop(records);
-    *slot.lock(rt) = Some(LinkedEnd::new(end));
+    *slot.lock(rt) = Some(BrandedEnd::new(end));
     same(
         rt,
         flow,

@@ -66,12 +66,12 @@ pub(super) fn new_link<W: TellingWriter + Drop>(
 
 /// An end of the queue of this link.
 #[derive(Drop)]
-pub(super) struct LinkedEnd<L: LinkBrand> {
+pub(super) struct BrandedEnd<L: LinkBrand> {
     end: IngressEnd,
     of: PhantomData<L>,
 }
 
-impl<L: LinkBrand> Model for LinkedEnd<L> {
+impl<L: LinkBrand> Model for BrandedEnd<L> {
     ghost use Rattle.std.specs.Prelude.{◌≡◌};
     ghost use Rattle.share_ingress.specs.Ends.{EndView};
 
@@ -82,11 +82,11 @@ impl<L: LinkBrand> Model for LinkedEnd<L> {
     ghost invariant = { λ l. l.end.link ≡ L.link };
 }
 
-impl<L: LinkBrand> LinkedEnd<L> {
-    pub(super) fn new(end: IngressEnd) -> LinkedEnd<L>
+impl<L: LinkBrand> BrandedEnd<L> {
+    pub(super) fn new(end: IngressEnd) -> BrandedEnd<L>
         requires { end.link ≡ L.link }
     {
-        LinkedEnd {
+        BrandedEnd {
             end,
             of: PhantomData,
         }
@@ -104,7 +104,7 @@ impl<L: LinkBrand> LinkedEnd<L> {
 }
 
 /// A place for an end, from which a worker takes it for its work.
-pub(super) type Slot<L> = Mutex<Option<LinkedEnd<L>>>;
+pub(super) type Slot<L> = Mutex<Option<BrandedEnd<L>>>;
 
 /// A running link with its clerks and the ends of its queue, each behind a lock of its own.
 #[derive(Drop)]
@@ -117,7 +117,7 @@ pub(super) struct Stage<W: TellingWriter, L: LinkBrand> {
 }
 
 impl<W: TellingWriter, L: LinkBrand> Attendant for Stage<W, L> {
-    fn rests(&self) {}
+    fn idles(&self) {}
 
     fn ends<R: Wait>(&self, _rt: &R) {
         self.has_ended.set();
@@ -130,7 +130,7 @@ fn into_slots<L: LinkBrand>(rt: &impl Abort, alloc: Global, ends: Vec<IngressEnd
 {
     let mut slots = Vec::new(alloc);
     for end in ends {
-        assert!(rt; slots.push(Mutex::new(Some(LinkedEnd::new(end)))).is_ok());
+        assert!(rt; slots.push(Mutex::new(Some(BrandedEnd::new(end)))).is_ok());
     }
     slots
 }

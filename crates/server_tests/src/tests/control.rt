@@ -580,9 +580,9 @@ fn short_writes_go_on<T: Wait + Abort, S: Rates + Copy>(rt: &T, alloc: Global, s
     }
 }
 
-// Checks that a line which begins so and has this many more bytes has no place, and the line after it has its own
+// Checks that a line which begins so and has this many more bytes is no request, and the line after it has its own
 // answer.
-fn has_no_place<T: Wait + Abort, S: Rates + Copy>(
+fn is_no_request<T: Wait + Abort, S: Rates + Copy>(
     rt: &T,
     alloc: Global,
     shelf: S,
@@ -606,16 +606,16 @@ fn has_no_place<T: Wait + Abort, S: Rates + Copy>(
 /// each version carries and of one more. Then come as many as a line of 20480 bytes has room for, and more than that.
 const DIGITS: [usize; 8] = [2, 2980, 2982, 18000, 18002, 20472, 20474, 40000];
 
-// Checks that neither a packet, however long, nor a line of more than 20480 bytes has a place.
-fn packets_and_over_long_lines_have_no_place<T: Wait + Abort, S: Rates + Copy>(
+// Checks that neither a packet, however long, nor a line of more than 20480 bytes is a request.
+fn packets_and_over_long_lines_are_no_requests<T: Wait + Abort, S: Rates + Copy>(
     rt: &T,
     alloc: Global,
     shelf: S,
 ) -> Result<(), Fail> {
     for digits in DIGITS {
-        has_no_place(rt, alloc, shelf, b"send a ", digits)?;
+        is_no_request(rt, alloc, shelf, b"send a ", digits)?;
     }
-    has_no_place(rt, alloc, shelf, b"", 20481)
+    is_no_request(rt, alloc, shelf, b"", 20481)
 }
 
 // Checks that only changes are answered with a spent life, and have no receipts.
@@ -682,7 +682,7 @@ fn lost_clients_are_not_obeyed<T: Wait + Abort, S: Rates + Copy>(
 fn lines_of_control_connections(rt: HostRuntime) -> Result<(), Fail> {
     let alloc = rt.alloc();
     are_answered(&rt, alloc, ByByte)?;
-    packets_and_over_long_lines_have_no_place(&rt, alloc, ByByte)?;
+    packets_and_over_long_lines_are_no_requests(&rt, alloc, ByByte)?;
     spent_lives_are_told(&rt, alloc, ByByte)?;
     answers_are_written_outside_of_holds(&rt, alloc, ByByte)?;
     cut_lines_are_no_lines(&rt, alloc, ByByte);

@@ -37,7 +37,7 @@ struct Heard {
 }
 
 impl Attendant for Heard {
-    fn rests(&self) {}
+    fn idles(&self) {}
 
     fn ends<R: Wait>(&self, _rt: &R) {
         self.has_ended.set();

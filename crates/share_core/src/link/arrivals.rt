@@ -6,12 +6,12 @@ ghost use Rattle.share_model.specs.link.Calls.{is_spent, Stepped, Steps};
 ghost use Rattle.share_model.specs.link.Fields.{IsBody};
 ghost use Rattle.share_model.specs.link.Arrivals.{arrive_in, arrive_step};
 ghost use Rattle.share_core.specs.Room.{free_flow};
-ghost use Rattle.share_flows.specs.Places.{Stands};
+ghost use Rattle.share_flows.specs.BufferHandles.{Stands};
 
 use super::Link;
 use super::levelling::set_active;
 use share_base::{Body, FlowNo, Name, Refusal, Reply};
-use share_flows::Place;
+use share_flows::BufferHandle;
 use share_model::Rates;
 
 impl<S: Rates> Link<S> {
@@ -25,35 +25,36 @@ impl<S: Rates> Link<S> {
     {
         match self.buffers.find(flow) {
             None => unreachable!(),
-            Some(place) => self.accept_at(&place, body),
+            Some(handle) => self.accept_at(&handle, body),
         }
     }
 
-    // Whether a packet makes the flow of the buffer at a place active: it has none, and it is not held.
-    fn wakes_at(&self, place: &Place) -> bool
-        requires { Stands self.now.live.buffers place.now }
+    // Whether a packet makes the flow of a buffer's handle active: it has none, and it is not held.
+    fn wakes_at(&self, handle: &BufferHandle) -> bool
+        requires { Stands self.now.live.buffers handle.now }
         ensures { result
-            ≡ (not (is_busy self.now.live.buffers place.now.flow) && not (is_held self.now.live.books place.now.flow)) }
+            ≡ (not (is_busy self.now.live.buffers handle.now.flow)
+            && not (is_held self.now.live.books handle.now.flow)) }
     {
-        !self.buffers.is_busy_at(place) && !self.books.is_held_at(place.at, place.flow)
+        !self.buffers.is_busy_at(handle) && !self.books.is_held_at(handle.at, handle.flow)
     }
 
-    // A packet comes for the flow of the buffer at a place.
-    fn accept_at(&mut self, place: &Place, body: Body) -> Reply
+    // A packet comes for the flow of a buffer's handle.
+    fn accept_at(&mut self, handle: &BufferHandle, body: Body) -> Reply
         requires living { is_spent self.old ≡ false }
         requires body { IsBody self.old.live.version body.payload }
-        requires stands { Stands self.old.live.buffers place.now }
+        requires stands { Stands self.old.live.buffers handle.now }
         ensures { Stepped
-            (arrive_in self.old.live place.now.flow body.payload (buffer_of self.old.live.buffers place.now.flow))
+            (arrive_in self.old.live handle.now.flow body.payload (buffer_of self.old.live.buffers handle.now.flow))
             self.old result self.new }
     {
-        let wakes = self.wakes_at(place);
-        let Ok(seq) = self.buffers.push_at(place, body) else {
+        let wakes = self.wakes_at(handle);
+        let Ok(seq) = self.buffers.push_at(handle, body) else {
             return self.refuse(Refusal::BufferFull);
         };
         self.counts.accepted += 1;
         self.counts.events += 1;
-        let flow = place.flow;
+        let flow = handle.flow;
         if wakes {
             set_active(
                 &mut self.queue,

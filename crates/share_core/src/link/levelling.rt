@@ -21,7 +21,7 @@ pub fn level(queue: &mut Queue, ledger: &Ledger, levelled_with: &mut [u32; MAX_F
     ensures queue { queue.new ≡ level_all queue.old (tickets_of_all ledger.now) }
     ensures levelled_with { AreTicketsOf levelled_with.new ledger.now }
 {
-    ledger.is_kept();
+    ledger.is_well_formed();
     let mut place = 0;
     while let Some(changed) = next_changed(levelled_with, ledger.ticket_counts(), place) {
         level_at(queue, ledger, levelled_with, changed);
@@ -35,7 +35,7 @@ pub fn level_from_scratch(queue: &mut Queue, ledger: &Ledger, levelled_with: &mu
     ensures queue { queue.new ≡ level_all queue.old (tickets_of_all ledger.now) }
     ensures levelled_with { AreTicketsOf levelled_with.new ledger.now }
 {
-    ledger.is_kept();
+    ledger.is_well_formed();
     for place in 0..ledger.flow_count() {
         level_at(queue, ledger, levelled_with, place);
     }

@@ -7,7 +7,7 @@ ghost use Rattle.share_model.specs.link.Turns.{sending_at, sending, rest_of, who
 ghost use Rattle.share_model.specs.link.Turns.{fault_step};
 ghost use Rattle.share_model.specs.io.Told.{Fits};
 ghost use Rattle.share_core.specs.NextWrite.{IsNextWriteOf, IsHeaderOf, IsWithinRest, WritesNothing};
-ghost use Rattle.share_flows.specs.Places.{Stands};
+ghost use Rattle.share_flows.specs.BufferHandles.{Stands};
 
 use super::Link;
 use super::levelling::set_active;
@@ -17,7 +17,7 @@ use share_frame::{header, header2};
 use share_model::{Answer, Part, Rates, TellingWriter};
 
 impl<S: Rates> Link<S> {
-    // The place at the head packet of a flow.
+    // The write that goes on with the head packet of a flow.
     fn next_write(&self, flow: FlowNo, out: u32) -> Option<NextWrite>
         ensures { MatchOption result (head_of self.now.live.buffers flow ≡ None) (λ p.
             IsNextWriteOf (option_map (sending_at self.now.live out) (head_of self.now.live.buffers flow)) p
@@ -34,7 +34,7 @@ impl<S: Rates> Link<S> {
         })
     }
 
-    /// The place at which a write goes on: the frame in part, and otherwise a new frame of the next flow.
+    /// The write that is due: it goes on with the frame in part, and otherwise begins one of the next flow.
     #[inline(always)]
     pub fn sending(&self) -> Option<NextWrite>
         ensures { MatchOption result (sending self.now.live ≡ None) (λ p.
@@ -67,26 +67,26 @@ impl<S: Rates> Link<S> {
         }
         match self.sending() {
             None => Err(Turn::Idle),
-            Some(place) => Ok(place),
+            Some(due) => Ok(due),
         }
     }
 
     // The last k bytes of a frame are out: its flow is charged and posted for the whole, and its packet is taken out.
-    fn finish(&mut self, place: NextWrite, k: u32) -> Turn
+    fn finish(&mut self, due: NextWrite, k: u32) -> Turn
         requires living { is_spent self.old ≡ false }
         requires unbroken { self.old.live.broken ≡ false }
-        requires place { IsNextWriteOf (sending self.old.live) place }
-        requires stands { Stands self.old.live.buffers place.buffer }
+        requires due { IsNextWriteOf (sending self.old.live) due }
+        requires stands { Stands self.old.live.buffers due.buffer }
         requires within { IsWithinRest (sending self.old.live) k }
         ensures { IfSome (sending self.old.live) (λ s.
             Stepped (whole self.old.rates self.old.live s k, wrote_turn s k true)
             self.old result self.new) }
     {
-        let buffer = place.buffer;
+        let buffer = due.buffer;
         let flow = buffer.flow;
         let units = self
             .books
-            .charge_at(&self.shelf, buffer.at, flow, place.length);
+            .charge_at(&self.shelf, buffer.at, flow, due.length);
         self.queue.charge(flow, units);
         let _ = self.buffers.pop_at(&buffer);
         self.part = None;
@@ -104,68 +104,66 @@ impl<S: Rates> Link<S> {
         }
         Turn::Wrote {
             flow,
-            seq: place.seq,
+            seq: due.seq,
             k,
             whole: true,
         }
     }
 
     // k more bytes of a frame are out, and it is in part.
-    fn advance(&mut self, place: NextWrite, k: u32) -> Turn
+    fn advance(&mut self, due: NextWrite, k: u32) -> Turn
         requires living { is_spent self.old ≡ false }
         requires unbroken { self.old.live.broken ≡ false }
-        requires place { IsNextWriteOf (sending self.old.live) place }
+        requires due { IsNextWriteOf (sending self.old.live) due }
         requires within { IsWithinRest (sending self.old.live) k }
-        requires part { place.out + k < place.length }
+        requires part { due.out + k < due.length }
         ensures { IfSome (sending self.old.live)
             (λ s. Stepped (in_part self.old.live s k, wrote_turn s k false) self.old result self.new) }
     {
-        let buffer = place.buffer;
+        let buffer = due.buffer;
         self.part = Some(Part {
             flow: buffer.flow,
-            out: place.out + k,
+            out: due.out + k,
         });
         self.counts.events += 1;
         self.counts.sent += u64::from(k);
         Turn::Wrote {
             flow: buffer.flow,
-            seq: place.seq,
+            seq: due.seq,
             k,
             whole: false,
         }
     }
 
     /// The writer accepted k bytes of the frame that is sent. It takes no memory.
-    pub fn write(&mut self, place: NextWrite, k: u32) -> Turn
+    pub fn write(&mut self, due: NextWrite, k: u32) -> Turn
         requires living { is_spent self.old ≡ false }
         requires unbroken { self.old.live.broken ≡ false }
-        requires place { IsNextWriteOf (sending self.old.live) place }
-        requires stands { Stands self.old.live.buffers place.buffer }
+        requires due { IsNextWriteOf (sending self.old.live) due }
+        requires stands { Stands self.old.live.buffers due.buffer }
         requires within { IsWithinRest (sending self.old.live) k }
         ensures { IfSome (sending self.old.live)
             (λ s. Stepped (write_step self.old.rates self.old.live s k) self.old result self.new) }
     {
-        if place.out + k == place.length {
-            self.finish(place, k)
+        if due.out + k == due.length {
+            self.finish(due, k)
         } else {
-            self.advance(place, k)
+            self.advance(due, k)
         }
     }
 
     /// The writer failed on the frame that is sent. It takes no memory.
-    pub fn fail(&mut self, place: NextWrite) -> Turn
+    pub fn fail(&mut self, due: NextWrite) -> Turn
         requires living { is_spent self.old ≡ false }
         requires unbroken { self.old.live.broken ≡ false }
-        requires place { IsNextWriteOf (sending self.old.live) place }
-        requires stands { Stands self.old.live.buffers place.buffer }
+        requires due { IsNextWriteOf (sending self.old.live) due }
+        requires stands { Stands self.old.live.buffers due.buffer }
         ensures { IfSome (sending self.old.live)
             (λ s. Stepped (fault_step self.old.rates self.old.live s) self.old result self.new) }
     {
-        let buffer = place.buffer;
+        let buffer = due.buffer;
         let flow = buffer.flow;
-        let units = self
-            .books
-            .charge_at(&self.shelf, buffer.at, flow, place.out);
+        let units = self.books.charge_at(&self.shelf, buffer.at, flow, due.out);
         self.queue.charge(flow, units);
         self.part = None;
         self.torn = Some(flow);
@@ -173,35 +171,30 @@ impl<S: Rates> Link<S> {
         self.counts.events += 1;
         Turn::Torn {
             flow,
-            seq: place.seq,
-            j: place.out,
+            seq: due.seq,
+            j: due.out,
         }
     }
 
     /// Offers a writer the next bytes of the frame that is sent, at most `most`, in one call. It takes no memory.
-    pub fn offer<W: TellingWriter>(
-        &mut self,
-        place: &NextWrite,
-        most: u32,
-        writer: &mut W,
-    ) -> Answer
-        requires place { IsNextWriteOf (sending self.old.live) place.now }
-        requires stands { Stands self.old.live.buffers place.now.buffer }
+    pub fn offer<W: TellingWriter>(&mut self, due: &NextWrite, most: u32, writer: &mut W) -> Answer
+        requires due { IsNextWriteOf (sending self.old.live) due.now }
+        requires stands { Stands self.old.live.buffers due.now.buffer }
         ensures answered { IfSome (sending self.old.live)
             (λ s. W.answers writer.old (take most (rest_of s)) result writer.new
             × Fits (take most (rest_of s)) result) }
         ensures same { self.new ≡ self.old }
     {
-        let flow = place.buffer.flow;
-        let payload = (place.length - self.version.header() as u32) as u16;
+        let flow = due.buffer.flow;
+        let payload = (due.length - self.version.header() as u32) as u16;
         match self.version {
             Version::One => {
-                let header = header(flow, place.seq, payload);
-                self.offer_under(&header, place, most, writer)
+                let header = header(flow, due.seq, payload);
+                self.offer_under(&header, due, most, writer)
             }
             Version::Two => {
-                let header = header2(flow, u64::from(place.seq), place.tariff, payload);
-                self.offer_under(&header, place, most, writer)
+                let header = header2(flow, u64::from(due.seq), due.tariff, payload);
+                self.offer_under(&header, due, most, writer)
             }
         }
     }
@@ -210,19 +203,19 @@ impl<S: Rates> Link<S> {
     fn offer_under<W: TellingWriter>(
         &mut self,
         header: &[u8],
-        place: &NextWrite,
+        due: &NextWrite,
         most: u32,
         writer: &mut W,
     ) -> Answer
         requires header { IsHeaderOf (sending self.old.live) header.now }
-        requires place { IsNextWriteOf (sending self.old.live) place.now }
-        requires stands { Stands self.old.live.buffers place.now.buffer }
+        requires due { IsNextWriteOf (sending self.old.live) due.now }
+        requires stands { Stands self.old.live.buffers due.now.buffer }
         ensures answered { IfSome (sending self.old.live)
             (λ s. W.answers writer.old (take most (rest_of s)) result writer.new
             × Fits (take most (rest_of s)) result) }
         ensures same { self.new ≡ self.old }
     {
         self.buffers
-            .offer_at(&place.buffer, header, place.out, most, writer)
+            .offer_at(&due.buffer, header, due.out, most, writer)
     }
 }

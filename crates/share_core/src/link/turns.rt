@@ -4,7 +4,7 @@ ghost use Rattle.share_model.specs.link.Calls.{is_spent, OfferDecided, TurnCall}
 ghost use Rattle.share_model.specs.link.Turns.{sending};
 ghost use Rattle.share_core.specs.Lent.{lent};
 ghost use Rattle.share_core.specs.NextWrite.{IsNextWriteOf};
-ghost use Rattle.share_flows.specs.Places.{Stands};
+ghost use Rattle.share_flows.specs.BufferHandles.{Stands};
 
 use super::Link;
 use crate::next_write::NextWrite;
@@ -21,25 +21,25 @@ impl<S: Rates> Link<S> {
     {
         match self.due() {
             Err(turn) => turn,
-            Ok(place) => self.send(place, most, writer),
+            Ok(due) => self.send(due, most, writer),
         }
     }
 
     // Offers a writer the next bytes of the frame that is sent.
-    fn send<W: TellingWriter>(&mut self, place: NextWrite, most: u32, writer: &mut W) -> Turn
+    fn send<W: TellingWriter>(&mut self, due: NextWrite, most: u32, writer: &mut W) -> Turn
         requires some { 1 ≤ most }
         requires living { is_spent self.old ≡ false }
         requires unbroken { self.old.live.broken ≡ false }
-        requires sends { IsNextWriteOf (sending self.old.live) place }
-        requires stands { Stands self.old.live.buffers place.buffer }
+        requires sends { IsNextWriteOf (sending self.old.live) due }
+        requires stands { Stands self.old.live.buffers due.buffer }
         ensures { IfSome (sending self.old.live)
             (λ s. OfferDecided W.answers (lent self.old writer.old) most s result (lent self.new writer.new)) }
     {
-        match self.offer(&place, most, writer) {
-            Answer::Accepted(0) => self.fail(place),
-            Answer::Accepted(count) => self.write(place, count as u32),
+        match self.offer(&due, most, writer) {
+            Answer::Accepted(0) => self.fail(due),
+            Answer::Accepted(count) => self.write(due, count as u32),
             Answer::Interrupted => Turn::Again,
-            Answer::Failed => self.fail(place),
+            Answer::Failed => self.fail(due),
         }
     }
 }

@@ -9,13 +9,13 @@ ghost use Rattle.share_model.specs.funding.Changes.{fund_currency_refusal, fund_
 ghost use Rattle.share_model.specs.funding.Changes.{unfund, add_flow_refusal, add_flow, release_from};
 ghost use Rattle.share_model.specs.funding.Changes.{remove_flow, set_active};
 ghost use Rattle.share_model.specs.declared.funding.OpenFlow.{OpenFlow};
-ghost use Rattle.share_model.specs.funding.Kept.{IsKept};
+ghost use Rattle.share_model.specs.funding.WellFormed.{IsWellFormed};
 ghost use Rattle.share_ledger.specs.Ranks.{AreBacking};
 ghost use Rattle.share_ledger.specs.FundingTickets.{AreTicketed, funds_of};
 
 use super::Tables;
 use crate::holders;
-use crate::net::Net;
+use crate::valuation::Valuation;
 use share_base::{FlowNo, Name, Refusal, TicketNo};
 use share_model::{Holder, OpenFlow, Ticket};
 
@@ -26,7 +26,7 @@ impl Tables {
         ensures refused { IfErr result
             (λ e. IsRefused (make_currency_refusal self.old name) e × (self.new ≡ self.old)) }
     {
-        self.is_kept();
+        self.is_well_formed();
         if let Some(refusal) = self.make_currency_refusal(name) {
             return Err(refusal);
         }
@@ -40,7 +40,7 @@ impl Tables {
         ensures refused { IfErr result
             (λ e. (remove_currency_refusal self.old name ≡ Some e) × (self.new ≡ self.old)) }
     {
-        self.is_kept();
+        self.is_well_formed();
         if let Some(refusal) = self.remove_currency_refusal(name) {
             return Err(refusal);
         }
@@ -56,7 +56,7 @@ impl Tables {
         ensures refused { IfErr result
             (λ e. IsRefused (make_ticket_refusal self.old amount currency) e × (self.new ≡ self.old)) }
     {
-        self.is_kept();
+        self.is_well_formed();
         if let Some(refusal) = self.make_ticket_refusal(amount, currency) {
             return Err(refusal);
         }
@@ -78,7 +78,7 @@ impl Tables {
         ensures refused { IfErr result
             (λ e. (remove_ticket_refusal self.old number ≡ Some e) × (self.new ≡ self.old)) }
     {
-        self.is_kept();
+        self.is_well_formed();
         if let Some(refusal) = self.remove_ticket_refusal(number) {
             return Err(refusal);
         }
@@ -100,7 +100,7 @@ impl Tables {
 
     // Gives the first ticket of this number this holder.
     fn give(&mut self, number: u64, holder: &Holder)
-        requires { IsKept
+        requires { IsWellFormed
             (record self.old { tickets = with_holder number holder.now self.old.tickets }) }
         ensures { self.new
             ≡ record self.old { tickets = with_holder number holder.now self.old.tickets } }
@@ -110,38 +110,43 @@ impl Tables {
         }
     }
 
-    /// `net` has the funding tickets and the ranks of the currencies.
+    /// `valuation` has the funding tickets and the ranks of the currencies.
     pub(crate) fn fund_currency(
         &mut self,
         ticket: u64,
         currency: Name,
-        net: &Net,
+        valuation: &Valuation,
     ) -> Result<(), Refusal>
-        requires { AreBacking self.old net.now }
+        requires { AreBacking self.old valuation.now }
         ensures done { IfOk result
             (λ _. (fund_currency_refusal self.old ticket currency ≡ None)
             × (self.new ≡ fund_currency self.old ticket currency)) }
         ensures refused { IfErr result
             (λ e. (fund_currency_refusal self.old ticket currency ≡ Some e) × (self.new ≡ self.old)) }
     {
-        self.is_kept();
-        if let Some(refusal) = self.fund_currency_refusal(ticket, currency, net) {
+        self.is_well_formed();
+        if let Some(refusal) = self.fund_currency_refusal(ticket, currency, valuation) {
             return Err(refusal);
         }
         self.give(ticket, &Holder::Currency(currency));
         Ok(())
     }
 
-    /// `net` has the funding tickets of the flows.
-    pub(crate) fn fund_flow(&mut self, ticket: u64, flow: Name, net: &Net) -> Result<(), Refusal>
-        requires { AreTicketed (funds_of self.old) net.now.funding.items }
+    /// `valuation` has the funding tickets of the flows.
+    pub(crate) fn fund_flow(
+        &mut self,
+        ticket: u64,
+        flow: Name,
+        valuation: &Valuation,
+    ) -> Result<(), Refusal>
+        requires { AreTicketed (funds_of self.old) valuation.now.funding.items }
         ensures done { IfOk result
             (λ _. (fund_flow_refusal self.old ticket flow ≡ None) × (self.new ≡ fund_flow self.old ticket flow)) }
         ensures refused { IfErr result
             (λ e. (fund_flow_refusal self.old ticket flow ≡ Some e) × (self.new ≡ self.old)) }
     {
-        self.is_kept();
-        if let Some(refusal) = self.fund_flow_refusal(ticket, flow, net) {
+        self.is_well_formed();
+        if let Some(refusal) = self.fund_flow_refusal(ticket, flow, valuation) {
             return Err(refusal);
         }
         if let Some(open) = self.flow_named(flow) {
@@ -153,7 +158,7 @@ impl Tables {
     pub(crate) fn unfund(&mut self, ticket: u64)
         ensures { self.new ≡ unfund self.old ticket }
     {
-        self.is_kept();
+        self.is_well_formed();
         self.give(ticket, &Holder::Nobody);
     }
 
@@ -165,7 +170,7 @@ impl Tables {
         ensures refused { IfErr result
             (λ e. IsRefused (add_flow_refusal self.old name) e × (self.new ≡ self.old)) }
     {
-        self.is_kept();
+        self.is_well_formed();
         if let Some(refusal) = self.add_flow_refusal(name) {
             return Err(refusal);
         }
@@ -182,7 +187,7 @@ impl Tables {
     pub(crate) fn remove_flow(&mut self, flow: FlowNo)
         ensures { self.new ≡ remove_flow self.old flow }
     {
-        self.is_kept();
+        self.is_well_formed();
         let place = self.place_of_flow(flow);
         release(&mut self.tickets, flow);
         if let Some(place) = place {
@@ -197,7 +202,7 @@ impl Tables {
         ensures place { IfSome result (λ place. position (λ (o : OpenFlow). nat_eq flow o.number)
             (map (λ e. e.1) self.old.flows) ≡ Some place) }
     {
-        self.is_kept();
+        self.is_well_formed();
         if let Some(place) = self.place_of_flow(flow) {
             if let Some(open) = self.flows.get_index_mut(place) {
                 let news = open.active != active;

@@ -4,14 +4,14 @@ ghost use Rattle.share_model.specs.funding.Changes.{uses, make_currency_refusal}
 ghost use Rattle.share_model.specs.funding.Changes.{remove_currency_refusal, make_ticket_refusal};
 ghost use Rattle.share_model.specs.funding.Changes.{remove_ticket_refusal, fund_currency_refusal, fund_flow_refusal};
 ghost use Rattle.share_model.specs.funding.Changes.{unfund_refusal, add_flow_refusal, amend_refusal};
-ghost use Rattle.share_model.specs.funding.Changes.{is_amount, ticket_of, is_found_held};
+ghost use Rattle.share_model.specs.funding.Changes.{is_amount, ticket_of, has_found_holder};
 ghost use Rattle.std.specs.List.{list_any};
 ghost use Rattle.share_ledger.specs.Ranks.{AreBacking};
 ghost use Rattle.share_ledger.specs.FundingTickets.{AreTicketed, funds_of};
 
 use super::{MAX_AMOUNT, MAX_CURRENCIES, MAX_FLOWS, MAX_FUNDING, MAX_TICKETS, Tables, is_base};
 use crate::holders;
-use crate::net::Net;
+use crate::valuation::Valuation;
 use share_base::{Name, Refusal};
 use share_model::Ticket;
 
@@ -71,7 +71,7 @@ impl Tables {
         match self.ticket(number) {
             None => Some(Refusal::NoTicket),
             Some(ticket) => {
-                if holders::is_held(&ticket.holder) {
+                if holders::has_holder(&ticket.holder) {
                     return Some(Refusal::Funding);
                 }
                 None
@@ -80,12 +80,12 @@ impl Tables {
     }
 
     /// Whether the ticket of a number has a holder.
-    pub(crate) fn is_held(&self, number: u64) -> bool
-        ensures { result ≡ is_found_held (ticket_of self.now number) }
+    pub(crate) fn has_holder(&self, number: u64) -> bool
+        ensures { result ≡ has_found_holder (ticket_of self.now number) }
     {
         match self.ticket(number) {
             None => false,
-            Some(ticket) => holders::is_held(&ticket.holder),
+            Some(ticket) => holders::has_holder(&ticket.holder),
         }
     }
 
@@ -99,14 +99,14 @@ impl Tables {
         }
     }
 
-    /// `net` has the funding tickets and the ranks of the currencies.
+    /// `valuation` has the funding tickets and the ranks of the currencies.
     pub(crate) fn fund_currency_refusal(
         &self,
         number: u64,
         currency: Name,
-        net: &Net,
+        valuation: &Valuation,
     ) -> Option<Refusal>
-        requires { AreBacking self.now net.now }
+        requires { AreBacking self.now valuation.now }
         ensures { result ≡ fund_currency_refusal self.now number currency }
     {
         let Some(ticket) = self.ticket(number) else {
@@ -118,18 +118,23 @@ impl Tables {
         if is_base(currency) {
             return Some(Refusal::Base);
         }
-        if holders::is_held(&ticket.holder) {
+        if holders::has_holder(&ticket.holder) {
             return Some(Refusal::Funding);
         }
-        if self.count_backing(currency, net) >= MAX_FUNDING {
+        if self.count_backing(currency, valuation) >= MAX_FUNDING {
             return Some(Refusal::Crowded);
         }
-        self.chain_refusal(number, currency, net)
+        self.chain_refusal(number, currency, valuation)
     }
 
-    /// `net` has the funding tickets of the flows.
-    pub(crate) fn fund_flow_refusal(&self, number: u64, flow: Name, net: &Net) -> Option<Refusal>
-        requires { AreTicketed (funds_of self.now) net.now.funding.items }
+    /// `valuation` has the funding tickets of the flows.
+    pub(crate) fn fund_flow_refusal(
+        &self,
+        number: u64,
+        flow: Name,
+        valuation: &Valuation,
+    ) -> Option<Refusal>
+        requires { AreTicketed (funds_of self.now) valuation.now.funding.items }
         ensures { result ≡ fund_flow_refusal self.now number flow }
     {
         let Some(ticket) = self.ticket(number) else {
@@ -138,10 +143,10 @@ impl Tables {
         let Some(open) = self.flow_named(flow) else {
             return Some(Refusal::NoFlow);
         };
-        if holders::is_held(&ticket.holder) {
+        if holders::has_holder(&ticket.holder) {
             return Some(Refusal::Funding);
         }
-        if self.count_funding(open.number, net) >= MAX_FUNDING {
+        if self.count_funding(open.number, valuation) >= MAX_FUNDING {
             return Some(Refusal::Crowded);
         }
         None
@@ -153,7 +158,7 @@ impl Tables {
         match self.ticket(number) {
             None => Some(Refusal::NoTicket),
             Some(ticket) => {
-                if !holders::is_held(&ticket.holder) {
+                if !holders::has_holder(&ticket.holder) {
                     return Some(Refusal::Unfunded);
                 }
                 None

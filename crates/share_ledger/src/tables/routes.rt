@@ -1,9 +1,9 @@
 //! The routes of the tickets that have a holder.
 ghost use Rattle.std.specs.Prelude.{◌≡◌, ◌≤◌, ◌<◌, length, take, slice_get, option_map, Some, true};
-ghost use Rattle.share_model.specs.funding.Kept.{names_of, times, IsHolderKnown};
+ghost use Rattle.share_model.specs.funding.WellFormed.{names_of, times, IsHolderKnown};
 ghost use Rattle.share_ledger.specs.Routes.{holder_place, is_kind, route_of, routes_of, IsRouteWithin};
 ghost use Rattle.share_ledger.specs.Routes.{IsRouted};
-ghost use Rattle.share_model.specs.funding.Changes.{ticket_of, is_found_held};
+ghost use Rattle.share_model.specs.funding.Changes.{ticket_of, has_found_holder};
 
 use super::{MAX_TICKETS, Tables};
 use crate::holders;
@@ -40,11 +40,11 @@ impl Tables {
 
     /// The route of a ticket that has a holder, and whether it backs a currency.
     pub(crate) fn route_of(&self, number: u64) -> (Route, bool)
-        requires { is_found_held (ticket_of self.now number) ≡ true }
+        requires { has_found_holder (ticket_of self.now number) ≡ true }
         ensures within { IsRouteWithin result.0 }
         ensures routed { IsRouted self.now number result.0 result.1 }
     {
-        self.is_kept();
+        self.is_well_formed();
         let Some(ticket) = self.ticket(number) else {
             unreachable!();
         };
@@ -56,7 +56,7 @@ impl Tables {
         ensures listed { take result routes.new ≡ routes_of self.now backing self.now.tickets }
         ensures few { result ≤ 1024 }
     {
-        self.is_kept();
+        self.is_well_formed();
         let mut count = 0;
         for i in 0..self.tickets.len() {
             let ticket = &self.tickets[i];

@@ -8,7 +8,7 @@ pub mod ChainLemmas
 pub mod CostLemmas
 pub mod EventCaseLemmas
 pub mod EventLemmas
-pub mod HeadlineLemmas
+pub mod PromiseLemmas
 pub mod HistoryLemmas
 pub mod KeptClientLemmas
 pub mod PacketCountLemmas

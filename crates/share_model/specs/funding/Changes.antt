@@ -15,7 +15,7 @@ use Rattle.share_model.specs.declared.funding.Holder.{Holder}
 use Rattle.share_model.specs.declared.funding.Holder.TheVariants.{Nobody, Currency, Flow}
 use Rattle.share_model.specs.declared.funding.Ticket.{Ticket}
 use Rattle.share_model.specs.declared.funding.OpenFlow.{OpenFlow}
-use Rattle.share_model.specs.funding.Graph.{NameBytes, base, Graph, is_held_by_currency, is_held_by_flow, backing}
+use Rattle.share_model.specs.funding.Graph.{NameBytes, base, Graph, holder_is_currency, holder_is_flow, backing}
 use Rattle.share_model.specs.funding.Graph.{funding, chain_within, is_deep}
 
 -- the first ticket of a number, and its parts if there is one
@@ -25,14 +25,14 @@ is_numbered n t = nat_eq n t.number
 abbrev pub ticket_of : Graph → ℕ → Option Ticket
 ticket_of g n = find (is_numbered n) g.tickets
 
-abbrev pub is_held : Holder → Bool
-is_held Nobody = false
-is_held (Currency c) = true
-is_held (Flow f) = true
+abbrev pub has_holder : Holder → Bool
+has_holder Nobody = false
+has_holder (Currency c) = true
+has_holder (Flow f) = true
 
-abbrev pub is_found_held : Option Ticket → Bool
-is_found_held None = false
-is_found_held (Some t) = is_held t.holder
+abbrev pub has_found_holder : Option Ticket → Bool
+has_found_holder None = false
+has_found_holder (Some t) = has_holder t.holder
 
 abbrev pub found_denomination : Option Ticket → NameBytes
 found_denomination None = base
@@ -51,12 +51,12 @@ flow_number None = 0
 flow_number (Some f) = f.number
 
 -- the ticket with this holder
-abbrev pub held_by : Holder → Ticket → Ticket
-held_by h t = record t { holder = h }
+abbrev pub with_its_holder : Holder → Ticket → Ticket
+with_its_holder h t = record t { holder = h }
 
 -- the first ticket of a number gets this holder
 abbrev pub with_holder : ℕ → Holder → List Ticket → List Ticket
-with_holder n h ts = change_first (is_numbered n) (held_by h) ts
+with_holder n h ts = change_first (is_numbered n) (with_its_holder h) ts
 
 -- Making and removing a currency
 abbrev pub make_currency_refusal : Graph → NameBytes → Option Refusal
@@ -70,7 +70,7 @@ make_currency g c = record g { currencies = g.currencies ++ c ∷ [] }
 
 -- whether a ticket is denominated in the currency, or funds it
 abbrev pub uses : NameBytes → Ticket → Bool
-uses c t = bytes_eq c t.denomination || is_held_by_currency c t.holder
+uses c t = bytes_eq c t.denomination || holder_is_currency c t.holder
 
 abbrev pub remove_currency_refusal : Graph → NameBytes → Option Refusal
 remove_currency_refusal g c = first_refusal (
@@ -105,7 +105,7 @@ make_ticket g amount c = record g {
 abbrev pub remove_ticket_refusal : Graph → ℕ → Option Refusal
 remove_ticket_refusal g n = first_refusal (
     (not (is_some (ticket_of g n)), NoTicket)
-    ∷ (is_found_held (ticket_of g n), Funding)
+    ∷ (has_found_holder (ticket_of g n), Funding)
     ∷ [])
 
 abbrev pub remove_ticket : Graph → ℕ → Graph
@@ -131,7 +131,7 @@ fund_currency_refusal g n c = first_refusal (
     (not (is_some (ticket_of g n)), NoTicket)
     ∷ (not (is_currency g c), NoCurrency)
     ∷ (bytes_eq c base, Base)
-    ∷ (is_found_held (ticket_of g n), Funding)
+    ∷ (has_found_holder (ticket_of g n), Funding)
     ∷ (nat_le 16 (length (backing g.tickets c)), Crowded)
     ∷ (chain_within g.tickets 8 c (found_denomination (ticket_of g n)), Cycle)
     ∷ (is_deep (with_holder n (Currency c) g.tickets), Deep)
@@ -144,7 +144,7 @@ abbrev pub fund_flow_refusal : Graph → ℕ → NameBytes → Option Refusal
 fund_flow_refusal g n f = first_refusal (
     (not (is_some (ticket_of g n)), NoTicket)
     ∷ (not (is_some (flow_named g f)), NoFlow)
-    ∷ (is_found_held (ticket_of g n), Funding)
+    ∷ (has_found_holder (ticket_of g n), Funding)
     ∷ (nat_le 16 (length (funding g.tickets (flow_number (flow_named g f)))), Crowded)
     ∷ [])
 
@@ -154,7 +154,7 @@ fund_flow g n f = record g { tickets = with_holder n (Flow (flow_number (flow_na
 abbrev pub unfund_refusal : Graph → ℕ → Option Refusal
 unfund_refusal g n = first_refusal (
     (not (is_some (ticket_of g n)), NoTicket)
-    ∷ (not (is_found_held (ticket_of g n)), Unfunded)
+    ∷ (not (has_found_holder (ticket_of g n)), Unfunded)
     ∷ [])
 
 abbrev pub unfund : Graph → ℕ → Graph
@@ -175,7 +175,7 @@ add_flow g f = record g { flows = g.flows ++ (f, added_flow g) ∷ []; next_flow
 
 -- the tickets that fund a closed flow lose their holder
 abbrev pub release_from : ℕ → Ticket → Ticket
-release_from f t = if is_held_by_flow f t.holder then held_by Nobody t else t
+release_from f t = if holder_is_flow f t.holder then with_its_holder Nobody t else t
 
 abbrev pub is_open_as : ℕ → NameBytes × OpenFlow → Bool
 is_open_as f e = nat_eq f e.1.number

@@ -37,15 +37,15 @@ abbrev pub flow_numbers : List (NameBytes × OpenFlow) → List ℕ
 flow_numbers es = map (λ (e : NameBytes × OpenFlow). e.1.number) es
 
 -- whether a holder is this currency, and whether it is this flow
-abbrev pub is_held_by_currency : NameBytes → Holder → Bool
-is_held_by_currency c Nobody = false
-is_held_by_currency c (Currency d) = bytes_eq c d
-is_held_by_currency c (Flow f) = false
+abbrev pub holder_is_currency : NameBytes → Holder → Bool
+holder_is_currency c Nobody = false
+holder_is_currency c (Currency d) = bytes_eq c d
+holder_is_currency c (Flow f) = false
 
-abbrev pub is_held_by_flow : ℕ → Holder → Bool
-is_held_by_flow f Nobody = false
-is_held_by_flow f (Currency d) = false
-is_held_by_flow f (Flow g) = nat_eq f g
+abbrev pub holder_is_flow : ℕ → Holder → Bool
+holder_is_flow f Nobody = false
+holder_is_flow f (Currency d) = false
+holder_is_flow f (Flow g) = nat_eq f g
 
 -- the tickets denominated in a currency
 unfoldable pub denominated_in : List Ticket → NameBytes → List Ticket
@@ -53,11 +53,11 @@ denominated_in ts c = filter (λ t. bytes_eq c t.denomination) ts
 
 -- the tickets that fund a currency
 unfoldable pub backing : List Ticket → NameBytes → List Ticket
-backing ts c = filter (λ t. is_held_by_currency c t.holder) ts
+backing ts c = filter (λ t. holder_is_currency c t.holder) ts
 
 -- the tickets that fund a flow
 unfoldable pub funding : List Ticket → ℕ → List Ticket
-funding ts f = filter (λ t. is_held_by_flow f t.holder) ts
+funding ts f = filter (λ t. holder_is_flow f t.holder) ts
 
 -- whether an open flow of this number is active
 abbrev pub is_active_flow : Graph → ℕ → Bool

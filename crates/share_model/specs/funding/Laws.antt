@@ -7,7 +7,7 @@ use Rattle.share_model.specs.funding.Graph.{val, worth, tickets, is_active_flow,
 use Rattle.share_model.specs.funding.Changes.{make_currency, remove_currency, make_ticket, remove_ticket_refusal}
 use Rattle.share_model.specs.funding.Changes.{remove_ticket, fund_currency, add_flow}
 use Rattle.share_model.specs.lists.Each.{Each}
-use Rattle.share_model.specs.funding.Kept.{is_awake, kept_worth, IsCached}
+use Rattle.share_model.specs.funding.WellFormed.{is_awake, cached_worth, IsCached}
 
 -- the worth of the tickets that fund a flow together, before the cap
 abbrev pub uncapped_tickets : Graph → ℕ → ℕ
@@ -40,13 +40,13 @@ pub record NineStepsAreEnough (g : Graph) : Type 0 where
   pub activity : (k : ℕ) → Each (λ (t : Ticket). act g (k + 9) t ≡ is_active g t) g.tickets
   pub values : (k : ℕ) (c : NameBytes) → val g (k + 9) c ≡ val g 9 c
 
--- Kept amounts and values are those of the definition.
+-- Cached amounts and values are those of the definition.
 pub record IsAsDefined (g : Graph) (amount value : NameBytes → ℕ) : Type 0 where
   pub activity : Each (λ (t : Ticket). is_awake g amount t.holder ≡ is_active g t) g.tickets
   pub amounts : (c : NameBytes) → amount c ≡ active g c
   pub values : (c : NameBytes) → value c ≡ val g 9 c
   pub shares : (f : ℕ)
-      → tickets g f ≡ min (2 ^ 20) (sum_by (kept_worth g amount value) (funding g.tickets f))
+      → tickets g f ≡ min (2 ^ 20) (sum_by (cached_worth g amount value) (funding g.tickets f))
 
 -- All amounts and values that meet the equations of one step are those of the definition.
 abbrev pub CachedIsAsDefined : Graph → Type 0

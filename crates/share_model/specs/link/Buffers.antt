@@ -83,13 +83,13 @@ abbrev pub is_some_packet : {A : Type 0} → List A → Bool
 is_some_packet [] = false
 is_some_packet (p ∷ ps) = true
 
-abbrev pub holds_packet : {A : Type 0} → Option (BufferOf A) → Bool
-holds_packet None = false
-holds_packet (Some b) = is_some_packet b.packets
+abbrev pub has_packet : {A : Type 0} → Option (BufferOf A) → Bool
+has_packet None = false
+has_packet (Some b) = is_some_packet b.packets
 
 -- whether the buffer of a flow holds a packet
 abbrev pub is_busy : {A : Type 0} → List (BufferOf A) → ℕ → Bool
-is_busy bs f = holds_packet (buffer_of bs f)
+is_busy bs f = has_packet (buffer_of bs f)
 
 -- the same buffer, each packet seen as its image
 abbrev pub map_buffer : {A B : Type 0} → (A → B) → BufferOf A → BufferOf B

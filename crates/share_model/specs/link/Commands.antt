@@ -25,7 +25,7 @@ use Rattle.share_model.specs.funding.Changes.{remove_ticket, fund_currency_refus
 use Rattle.share_model.specs.funding.Changes.{fund_flow, unfund_refusal, unfund, flow_named, flow_number, add_flow}
 use Rattle.share_model.specs.funding.Changes.{remove_flow, amend_refusal, amend, set_active}
 use Rattle.share_model.specs.lists.Rises.{has_number}
-use Rattle.share_model.specs.funding.Kept.{IsKept}
+use Rattle.share_model.specs.funding.WellFormed.{IsWellFormed}
 use Rattle.share_model.specs.link.Live.{Live, with_one_event, by_refusal, with_level_queue}
 use Rattle.share_model.specs.link.Books.{account_of, is_book_of, new_book, is_held, books_with_hold}
 
@@ -160,7 +160,7 @@ pub record IsFunded (before now : Graph) : Type 0 where
   pub flows : now.flows ≡ before.flows
   pub next_flow : now.next_flow ≡ before.next_flow
   pub next_ticket : now.next_ticket ≤ before.next_ticket + 1
-  pub kept : IsKept before → IsKept now
+  pub kept : IsWellFormed before → IsWellFormed now
 
 -- the flow is open, and its frame is not in part
 pub record IsClosable (l : Live) (f : ℕ) : Type 0 where

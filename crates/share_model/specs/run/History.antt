@@ -42,8 +42,8 @@ packets_in_buffer None = []
 packets_in_buffer (Some b) = held_in b b.packets
 
 -- the packets in the buffer of a flow: none if it is not open
-abbrev pub held_packets : List Buffer → ℕ → List Packet
-held_packets bs f = packets_in_buffer (buffer_of bs f)
+abbrev pub queued_packets : List Buffer → ℕ → List Packet
+queued_packets bs f = packets_in_buffer (buffer_of bs f)
 
 -- the packets that were written whole
 abbrev pub sent_packets : List Sent → List Packet

@@ -21,7 +21,7 @@ use Rattle.share_model.specs.link.Books.{is_held}
 use Rattle.share_model.specs.link.Buffers.{Buffer, buffer_of, head_of, is_some_packet}
 use Rattle.share_model.specs.link.Totals.{packets_in}
 use Rattle.share_model.specs.funding.Graph.{NameBytes, Graph, flow_numbers}
-use Rattle.share_model.specs.funding.Kept.{IsKept}
+use Rattle.share_model.specs.funding.WellFormed.{IsWellFormed}
 use Rattle.share_model.specs.link.Live.{Live, empty_link, tickets_of_all}
 use Rattle.share_model.specs.run.Fold.{TornFrame, State, out}
 use Rattle.share_model.specs.stride.Moves.{Stride}
@@ -47,7 +47,7 @@ pub record CountsAreSound (life : ℕ) (c : Counts) (held gone : ℕ) : Type 0 w
 
 -- each event gave at most one number to a ticket, and one to a flow
 pub record FundingIsSound (events : ℕ) (g : Graph) : Type 0 where
-  pub kept : IsKept g
+  pub kept : IsWellFormed g
   pub next_ticket : g.next_ticket ≤ events + 1
   pub next_flow : g.next_flow ≤ events + 1
 

@@ -50,24 +50,13 @@ fn compare(rt: &impl Abort, alloc: Global, row: &str, status: &Status<'_>, wante
     same(rt, row, str::from_utf8(line.as_slice()).ok(), Some(wanted));
 }
 
-#[test]
-fn whole_status_is_spelled(rt: HostRuntime) -> Result<(), Fail> {
-    let grants = [
-        Grant {
-            amount: 200,
-            denomination: name_of(&rt, "gold"),
-        },
-        Grant {
-            amount: 50,
-            denomination: name_of(&rt, "base"),
-        },
-    ];
-    let acme = TenantStatus {
-        name: name_of(&rt, "acme"),
+fn acme<'a>(rt: &impl Abort, grants: &'a [Grant]) -> TenantStatus<'a> {
+    TenantStatus {
+        name: name_of(rt, "acme"),
         flow: 1,
         held: false,
         tickets: 250,
-        grants: &grants,
+        grants,
         waiting: 3,
         limit: 256,
         taken_packets: 13,
@@ -78,13 +67,17 @@ fn whole_status_is_spelled(rt: HostRuntime) -> Result<(), Fail> {
         connections: 2,
         dropped: 4,
         lost: 5,
-    };
-    let other = TenantStatus {
-        name: name_of(&rt, "b-2_x"),
+    }
+}
+
+// A tenant that is held, and has none of these grants.
+fn held_tenant<'a>(rt: &impl Abort, grants: &'a [Grant]) -> TenantStatus<'a> {
+    TenantStatus {
+        name: name_of(rt, "b-2_x"),
         flow: 1024,
         held: true,
         tickets: 0,
-        grants: &[],
+        grants: &grants[grants.len()..],
         waiting: 0,
         limit: 1,
         taken_packets: 0,
@@ -95,18 +88,21 @@ fn whole_status_is_spelled(rt: HostRuntime) -> Result<(), Fail> {
         connections: 0,
         dropped: 0,
         lost: 18446744073709551615,
-    };
-    let tenants = [acme, other];
-    let status = Status {
+    }
+}
+
+// The status of a gateway with all parts.
+fn whole<'a>(rt: &impl Abort, tenants: &'a [TenantStatus<'a>]) -> Status<'a> {
+    Status {
         version: "1.2.3",
         proved: "rattle 0.9",
         book: 42,
         events: 131,
         left: 16777085,
-        opened: Time::new(2026, 1, 31, 23, 59, 59).ok_or("a time")?,
+        opened: Time::new(2026, 1, 31, 23, 59, 59).expect(rt, "a time"),
         uplink: Some(UplinkStatus {
             state: UplinkState::Up,
-            address: address(&rt, "192.0.2.7:7003"),
+            address: address(rt, "192.0.2.7:7003"),
             sent: 1000000,
             outbox: 65536,
             lost: 17,
@@ -116,17 +112,33 @@ fn whole_status_is_spelled(rt: HostRuntime) -> Result<(), Fail> {
             waiting: 512,
             fault: None,
         },
-        tenants: &tenants,
+        tenants,
         downlink: Some(DownlinkStatus {
             state: DownlinkState::Listening,
-            address: address(&rt, "[2001:db8::1]:7003"),
+            address: address(rt, "[2001:db8::1]:7003"),
             frames: 7,
             bytes: 8000,
             strangers: 1,
         }),
-    };
+    }
+}
+
+#[test]
+fn whole_status_is_spelled(rt: HostRuntime) {
+    let grants = [
+        Grant {
+            amount: 200,
+            denomination: name_of(&rt, "gold"),
+        },
+        Grant {
+            amount: 50,
+            denomination: name_of(&rt, "base"),
+        },
+    ];
+    let grants = grants.as_slice();
+    let tenants = [acme(&rt, grants), held_tenant(&rt, grants)];
+    let status = whole(&rt, tenants.as_slice());
     compare(&rt, rt.alloc(), "whole", &status, WHOLE);
-    Ok(())
 }
 
 #[test]

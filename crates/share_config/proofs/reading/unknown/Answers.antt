@@ -6,8 +6,8 @@ use Rattle.share_config.proofs.reading.unknown.Goals as goal
 
 pub returns : goal.returns
 returns c =
-    let first : option_map (λ k. k.now) c.find.result ≡ find (lacks c.args.place) c.keys.result =
-    find_from_yields_List (lacks c.args.place) _ _ c.find.result c.find.ensures.ran (keys_come c.keys.result)
+    let first : option_map (λ k. k.now) c.find.result ≡ find (lacks c.args.location) c.keys.result =
+    find_from_yields_List (lacks c.args.location) _ _ c.find.result c.find.ensures.ran (keys_come c.keys.result)
     (λ x b q k. search (rules, tests)) in
-    first_unknown c.args.place c.args.table.now.entries c.find.result
-    (first ∙ ap (find (lacks c.args.place)) c.keys.ensures.rest)
+    first_unknown c.args.location c.args.table.now.entries c.find.result
+    (first ∙ ap (find (lacks c.args.location)) c.keys.ensures.rest)

@@ -8,5 +8,5 @@ use Rattle.share_config.proofs.section.peer.Goals as goal
 
 pub returns-in-Err-clause-fault : goal.returns-in-Err-clause-fault
 returns-in-Err-clause-fault c =
-    value_of_text peer_of reason.Peer c.args.place c.args.key (table_view c.args.table.now)
-    ∙ ap (λ said. said >>= λ text. found c.args.place c.args.key reason.Peer (peer_of text)) c.in-Err.ensures.fault
+    value_of_text peer_of reason.Peer c.args.location c.args.key (table_view c.args.table.now)
+    ∙ ap (λ said. said >>= λ text. found c.args.location c.args.key reason.Peer (peer_of text)) c.in-Err.ensures.fault

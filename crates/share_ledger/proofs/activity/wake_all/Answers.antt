@@ -1,5 +1,5 @@
 use Rattle.std.proofs.Common.{◌+◌, ℕ, List, Bool, sym, ap, ◌∙◌}
-use Rattle.share_ledger.specs.Nets.{activity_of}
+use Rattle.share_ledger.specs.Valuations.{activity_of}
 use Rattle.share_ledger.specs.Arrays.{flags_of, numbers_of}
 use Rattle.share_ledger.specs.Routes.{weight_from}
 use Rattle.share_ledger.specs.FundingTickets.{backs_of, funds_of}

@@ -1,7 +1,7 @@
 use Rattle.std.proofs.Common.{◌≡◌, ℕ, ◌&&◌, nat_lt}
 use Rattle.share_ledger.specs.Arrays.{flags_of, numbers_of}
 use Rattle.share_ledger.specs.FundingTickets.{AreCounted, backs_of, funds_of}
-use Rattle.share_ledger.specs.Nets.{activity_of}
+use Rattle.share_ledger.specs.Valuations.{activity_of}
 use Rattle.share_ledger.proofs.activity.wake_all.Given as goal
 
 abbrev pub invariant-loop-place : goal.invariant-loop-place

@@ -1,4 +1,4 @@
-use Rattle.share_model.specs.link.Places.{SharesAreKept}
+use Rattle.share_model.specs.link.Gains.{GainsAreWithinShares}
 use Rattle.share_locked.specs.Chains.{links_of}
 use Rattle.share_locked.proofs.ChainLemmas.{chain-links}
 use Rattle.share_locked.proofs.laws.shares_of_locked_calls.Goals as goal
@@ -6,7 +6,7 @@ use Rattle.share_locked.proofs.laws.shares_of_locked_calls.Goals as goal
 pub returns-clause-calls : goal.returns-clause-calls
 returns-clause-calls g c =
     λ later one other one_tickets other_tickets apart none chain both.
-    let calls : SharesAreKept g.W.TellingWriter.answers c.args.locked.now.recorder.link =
+    let calls : GainsAreWithinShares g.W.TellingWriter.answers c.args.locked.now.recorder.link =
     rw (← c.recorder.ensures.recorder) c.shares_of_recorders.ensures.calls in
     calls (links_of later) one other one_tickets other_tickets apart none
     (chain-links g.W.TellingWriter.answers c.args.locked.now later chain) both

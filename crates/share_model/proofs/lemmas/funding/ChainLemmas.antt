@@ -9,9 +9,9 @@ use Rattle.share_model.specs.lists.Change.{change_first}
 use Rattle.share_model.specs.declared.funding.Holder.{Holder}
 use Rattle.share_model.specs.declared.funding.Holder.TheVariants.{Nobody, Currency, Flow}
 use Rattle.share_model.specs.declared.funding.Ticket.{Ticket}
-use Rattle.share_model.specs.funding.Graph.{NameBytes, base, is_held_by_flow, denominated_in, leads_on, chain, runs}
+use Rattle.share_model.specs.funding.Graph.{NameBytes, base, holder_is_flow, denominated_in, leads_on, chain, runs}
 use Rattle.share_model.specs.funding.Graph.{is_deep}
-use Rattle.share_model.specs.funding.Changes.{is_numbered, held_by, with_holder, release_from}
+use Rattle.share_model.specs.funding.Changes.{is_numbered, with_its_holder, with_holder, release_from}
 use Rattle.share_model.proofs.lemmas.lists.SumLemmas.{same_name}
 use Rattle.share_model.proofs.lemmas.lists.CountLemmas.{any-remove, any-filter}
 use Rattle.share_model.proofs.lemmas.funding.SettledGraphLemmas.{any-more}
@@ -115,7 +115,7 @@ module _ (change : Ticket → Ticket)
 pub less-held : (n : ℕ) (h : Holder) (ts : List Ticket) → ((on : NameBytes → Bool) → leads_on on h ≡ false)
     → IsLess (with_holder n h ts) ts
 less-held n h ts none =
-    less-changed (held_by h)
+    less-changed (with_its_holder h)
     (λ a on t e. absurd (true≢false
     (sym e ∙ ap (λ b. bytes_eq a t.denomination && b) (none on) ∙ and-false (bytes_eq a t.denomination))))
     (is_numbered n) ts
@@ -125,9 +125,9 @@ less-release_from f ts = less-mapped (release_from f) step ts
   where
     step : (a : NameBytes) (on : NameBytes → Bool) (t : Ticket)
         → steps a on (release_from f t) ≡ true → steps a on t ≡ true
-    step a on t e = by (is_held_by_flow f t.holder) e
+    step a on t e = by (holder_is_flow f t.holder) e
       where
-        by : (b : Bool) → steps a on (cond b (held_by Nobody t) t) ≡ true → steps a on t ≡ true
+        by : (b : Bool) → steps a on (cond b (with_its_holder Nobody t) t) ≡ true → steps a on t ≡ true
         by true e = absurd (true≢false (sym e ∙ and-false (bytes_eq a t.denomination)))
         by false e = e
 

@@ -12,20 +12,20 @@ use Rattle.share_model.proofs.lemmas.lists.FirstItemLemmas.{each_map}
 use Rattle.share_model.specs.declared.funding.Holder.{Holder}
 use Rattle.share_model.specs.declared.funding.Holder.TheVariants.{Nobody, Currency, Flow}
 use Rattle.share_model.specs.declared.funding.Ticket.{Ticket}
-use Rattle.share_model.specs.funding.Graph.{NameBytes, base, Graph, empty_graph, is_held_by_currency, denominated_in}
+use Rattle.share_model.specs.funding.Graph.{NameBytes, base, Graph, empty_graph, holder_is_currency, denominated_in}
 use Rattle.share_model.specs.funding.Graph.{chain}
 use Rattle.share_model.specs.funding.Graph.{backing, funding}
 use Rattle.share_model.specs.funding.Changes.{is_currency, make_currency_refusal, make_currency}
 use Rattle.share_model.specs.funding.Changes.{uses, remove_currency_refusal, remove_currency}
-use Rattle.share_model.specs.funding.Kept.{names_of, times, IsHolderKnown, IsKept}
+use Rattle.share_model.specs.funding.WellFormed.{names_of, times, IsHolderKnown, IsWellFormed}
 use Rattle.share_model.proofs.lemmas.lists.SumLemmas.{same_name}
 use Rattle.share_model.proofs.lemmas.lists.CountLemmas.{length-remove, count-remove, count-remove_same, count-more}
 use Rattle.share_model.proofs.lemmas.funding.SettledGraphLemmas.{any_none}
 use Rattle.share_model.proofs.lemmas.funding.RefusalLemmas.{not-refused, room, absent, once-named}
 
-pub kept-empty : IsKept empty_graph
+pub well_formed-empty : IsWellFormed empty_graph
 unfolding chain denominated_in backing funding Rises
-kept-empty = record {
+well_formed-empty = record {
   sound = record {
     names = λ c. none (bytes_eq base c);
     flow_names = λ f. omega arith;
@@ -46,14 +46,14 @@ kept-empty = record {
     none true = omega arith
     none false = omega arith
 
-module _ (g : Graph) (ok : IsKept g) where
+module _ (g : Graph) (ok : IsWellFormed g) where
   holder-more : (c : NameBytes) (h : Holder) → IsHolderKnown g h → IsHolderKnown (make_currency g c) h
   holder-more c Nobody e = tt
   holder-more c (Currency d) e = let more = count-more (λ x. bytes_eq x d) (names_of g) c in omega arith
   holder-more c (Flow f) e = e
 
-  pub kept-make_currency : (c : NameBytes) → make_currency_refusal g c ≡ None → IsKept (make_currency g c)
-  kept-make_currency c none =
+  pub well_formed-make_currency : (c : NameBytes) → make_currency_refusal g c ≡ None → IsWellFormed (make_currency g c)
+  well_formed-make_currency c none =
       let one = not-refused (is_currency g c) Taken _ none in
       let two = not-refused (nat_le 64 (length g.currencies)) TableFull _ one.1 in
       record {
@@ -77,8 +77,9 @@ module _ (g : Graph) (ok : IsKept g) where
         few_flows = ok.few_flows;
       }
 
-  pub kept-remove_currency : (c : NameBytes) → remove_currency_refusal g c ≡ None → IsKept (remove_currency g c)
-  kept-remove_currency c none =
+  pub well_formed-remove_currency : (c : NameBytes) → remove_currency_refusal g c ≡ None
+      → IsWellFormed (remove_currency g c)
+  well_formed-remove_currency c none =
       let one = not-refused (not (is_currency g c)) NoCurrency _ none in
       let two = not-refused (bytes_eq c base) Base _ one.1 in
       let three = not-refused (list_any (uses c) g.tickets) InUse _ two.1 in
@@ -95,7 +96,7 @@ module _ (g : Graph) (ok : IsKept g) where
           known =
               both (λ (t : Ticket). times t.denomination (names_of g))
               (λ (t : Ticket). times t.denomination (names_of (remove_currency g c))) g.tickets
-              (λ t e. stay t.denomination (or_parts (bytes_eq c t.denomination) (is_held_by_currency c t.holder) e).0)
+              (λ t e. stay t.denomination (or_parts (bytes_eq c t.denomination) (holder_is_currency c t.holder) e).0)
               unused ok.sound.known;
         };
         shallow = record { unbacked = ok.shallow.unbacked; short = ok.shallow.short };
@@ -127,7 +128,7 @@ module _ (g : Graph) (ok : IsKept g) where
       both p q [] same e f = tt
       both p q (t ∷ ts) same e f = (let s = same t e.0 in let m = f.0 in omega arith, both p q ts same e.1 f.1)
 
-      holder : (h : Holder) → is_held_by_currency c h ≡ false → IsHolderKnown g h
+      holder : (h : Holder) → holder_is_currency c h ≡ false → IsHolderKnown g h
           → IsHolderKnown (remove_currency g c) h
       holder Nobody e f = tt
       holder (Currency d) e f = let s = stay d e in omega arith
@@ -138,6 +139,6 @@ module _ (g : Graph) (ok : IsKept g) where
           → Each (λ (t : Ticket). IsHolderKnown (remove_currency g c) t.holder) ts
       holders [] e f = tt
       holders (t ∷ ts) e f = (
-        holder t.holder (or_parts (bytes_eq c t.denomination) (is_held_by_currency c t.holder) e.0).1 f.0,
+        holder t.holder (or_parts (bytes_eq c t.denomination) (holder_is_currency c t.holder) e.0).1 f.0,
         holders ts e.1 f.1,
       )

@@ -4,10 +4,10 @@ use Rattle.std.proofs.Common.{true≢false}
 use Rattle.share_model.specs.declared.funding.Holder.{Holder}
 use Rattle.share_model.specs.declared.funding.Holder.TheVariants.{Nobody, Currency, Flow}
 use Rattle.share_model.specs.declared.funding.Ticket.{Ticket}
-use Rattle.share_model.specs.funding.Graph.{NameBytes, base, Graph, is_held_by_currency, denominated_in, leads_on}
+use Rattle.share_model.specs.funding.Graph.{NameBytes, base, Graph, holder_is_currency, denominated_in, leads_on}
 use Rattle.share_model.specs.funding.Graph.{chain, runs}
 use Rattle.share_model.specs.lists.Each.{Each}
-use Rattle.share_model.specs.funding.Kept.{IsShallow}
+use Rattle.share_model.specs.funding.WellFormed.{IsShallow}
 use Rattle.share_model.specs.funding.Laws.{IsAcyclic}
 use Rattle.share_model.proofs.lemmas.funding.ChainLemmas.{leads-more}
 use Rattle.share_model.proofs.lemmas.lists.FirstItemLemmas.{each_map}
@@ -50,10 +50,10 @@ no-base g ok zero a =
     none_any (λ (t : Ticket). leads_on (λ c. bytes_eq c base) t.holder) (denominated_in g.tickets a)
     (each_map _ (λ (t : Ticket). leads_on (λ c. bytes_eq c base) t.holder ≡ false) (λ t e. last t.holder e.0)
     (denominated_in g.tickets a)
-    (Each-filter (λ (t : Ticket). is_held_by_currency base t.holder ≡ false)
+    (Each-filter (λ (t : Ticket). holder_is_currency base t.holder ≡ false)
     (λ (t : Ticket). bytes_eq a t.denomination) g.tickets ok.unbacked))
   where
-    last : (h : Holder) → is_held_by_currency base h ≡ false → leads_on (λ c. bytes_eq c base) h ≡ false
+    last : (h : Holder) → holder_is_currency base h ≡ false → leads_on (λ c. bytes_eq c base) h ≡ false
     last Nobody e = refl
     last (Currency c) e = name_sym c base ∙ e
     last (Flow f) e = refl

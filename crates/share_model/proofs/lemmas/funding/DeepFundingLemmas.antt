@@ -9,11 +9,11 @@ use Rattle.share_model.proofs.lemmas.lists.FirstItemLemmas.{each_map}
 use Rattle.share_model.specs.declared.funding.Holder.{Holder}
 use Rattle.share_model.specs.declared.funding.Holder.TheVariants.{Nobody, Currency, Flow}
 use Rattle.share_model.specs.declared.funding.Ticket.{Ticket}
-use Rattle.share_model.specs.funding.Graph.{NameBytes, base, Graph, is_held_by_currency, denominated_in, leads_on}
+use Rattle.share_model.specs.funding.Graph.{NameBytes, base, Graph, holder_is_currency, denominated_in, leads_on}
 use Rattle.share_model.specs.funding.Graph.{chain}
 use Rattle.share_model.specs.funding.Graph.{chain_within, runs, is_deep}
 use Rattle.share_model.specs.funding.Changes.{fund_currency}
-use Rattle.share_model.specs.funding.Kept.{IsShallow}
+use Rattle.share_model.specs.funding.WellFormed.{IsShallow}
 use Rattle.share_model.specs.funding.Laws.{HasNineInChain, DeepIsNine, CycleIsBacking}
 use Rattle.share_model.proofs.lemmas.lists.SumLemmas.{name_refl, Each-filter}
 use Rattle.share_model.proofs.lemmas.funding.SettledGraphLemmas.{none_any, holder-short}
@@ -118,7 +118,7 @@ module _ (g : Graph) (ok : IsShallow g) where
       none_any (λ (t : Ticket). leads_on (runs g.tickets 8) t.holder) (denominated_in g.tickets a)
       (each_map _ (λ (t : Ticket). leads_on (runs g.tickets 8) t.holder ≡ false)
       (λ t e. holder-short g ok t.holder e.0) (denominated_in g.tickets a)
-      (Each-filter (λ (t : Ticket). is_held_by_currency base t.holder ≡ false)
+      (Each-filter (λ (t : Ticket). holder_is_currency base t.holder ≡ false)
       (λ (t : Ticket). bytes_eq a t.denomination) g.tickets ok.unbacked))
 
   runs-never : (k : ℕ) (a : NameBytes) → runs g.tickets (9 + k) a ≡ true → ⊥

@@ -14,10 +14,11 @@ use Rattle.share_model.specs.declared.funding.Holder.TheVariants.{Nobody, Curren
 use Rattle.share_model.specs.declared.funding.Ticket.{Ticket}
 use Rattle.share_model.specs.declared.funding.OpenFlow.{OpenFlow}
 use Rattle.share_model.specs.funding.Graph.{NameBytes, base, Graph, ticket_numbers, flow_numbers}
-use Rattle.share_model.specs.funding.Graph.{is_held_by_currency, is_held_by_flow, backing, funding}
-use Rattle.share_model.specs.funding.Changes.{held_by, flow_named, add_flow_refusal, added_flow, add_flow, release_from}
+use Rattle.share_model.specs.funding.Graph.{holder_is_currency, holder_is_flow, backing, funding}
+use Rattle.share_model.specs.funding.Changes.{with_its_holder, flow_named, add_flow_refusal, added_flow, add_flow}
+use Rattle.share_model.specs.funding.Changes.{release_from}
 use Rattle.share_model.specs.funding.Changes.{is_open_as, without_flow, remove_flow, active_as, set_active}
-use Rattle.share_model.specs.funding.Kept.{names_of, times, times_open, IsHolderKnown, IsKept}
+use Rattle.share_model.specs.funding.WellFormed.{names_of, times, times_open, IsHolderKnown, IsWellFormed}
 use Rattle.share_model.proofs.lemmas.lists.CountLemmas.{Each-mapped, length-remove, count-remove, count-remove_same}
 use Rattle.share_model.proofs.lemmas.lists.CountLemmas.{count-more}
 use Rattle.share_model.proofs.lemmas.lists.CountLemmas.{count-changed, count-mapped_less, rises-remove, rises-changed}
@@ -29,10 +30,11 @@ abbrev number : NameBytes × OpenFlow → ℕ
 number e = e.1.number
 
 -- the tickets that lose their holder
-release_from-keeps : (P : Ticket → Type 0) (f : ℕ) (t : Ticket) → P t → P (held_by Nobody t) → P (release_from f t)
-release_from-keeps P f t e n = by (is_held_by_flow f t.holder)
+release_from-keeps : (P : Ticket → Type 0) (f : ℕ) (t : Ticket) → P t → P (with_its_holder Nobody t)
+    → P (release_from f t)
+release_from-keeps P f t e n = by (holder_is_flow f t.holder)
   where
-    by : (b : Bool) → P (cond b (held_by Nobody t) t)
+    by : (b : Bool) → P (cond b (with_its_holder Nobody t) t)
     by true = n
     by false = e
 
@@ -54,10 +56,10 @@ length-release_from p nobody f ts few =
     none : (t : Ticket) → cond (p Nobody) 1 0 ≤ cond (p t.holder) 1 0
     none t = let zero = ap {B = ℕ} (λ b. cond b 1 0) nobody in omega arith
 
-module _ (g : Graph) (ok : IsKept g) where
-  pub kept-add_flow : (f : NameBytes) → add_flow_refusal g f ≡ None → IsKept (add_flow g f)
+module _ (g : Graph) (ok : IsWellFormed g) where
+  pub well_formed-add_flow : (f : NameBytes) → add_flow_refusal g f ≡ None → IsWellFormed (add_flow g f)
   unfolding Rises
-  kept-add_flow f none =
+  well_formed-add_flow f none =
       let one = not-refused (is_some (flow_named g f)) Taken _ none in
       let two = not-refused (nat_le 64 (length g.flows)) TableFull _ one.1 in
       let e : NameBytes × OpenFlow = (f, added_flow g) in
@@ -90,13 +92,13 @@ module _ (g : Graph) (ok : IsKept g) where
           omega arith
 
   each-release_from : (P : Ticket → Type 0) (f : ℕ) → Each P g.tickets
-      → ((t : Ticket) → P t → P (held_by Nobody t)) → Each P (map (release_from f) g.tickets)
+      → ((t : Ticket) → P t → P (with_its_holder Nobody t)) → Each P (map (release_from f) g.tickets)
   each-release_from P f each kept = Each-mapped P (release_from f) g.tickets each
       (λ t e. release_from-keeps P f t e (kept t e))
 
-  pub kept-remove_flow : (f : ℕ) → IsKept (remove_flow g f)
+  pub well_formed-remove_flow : (f : ℕ) → IsWellFormed (remove_flow g f)
   unfolding backing funding
-  kept-remove_flow f = record {
+  well_formed-remove_flow f = record {
     sound = record {
       names = ok.sound.names;
       flow_names = λ c.
@@ -109,7 +111,7 @@ module _ (g : Graph) (ok : IsKept g) where
     };
     shallow = record {
       unbacked =
-          each-release_from (λ (t : Ticket). is_held_by_currency base t.holder ≡ false) f ok.shallow.unbacked
+          each-release_from (λ (t : Ticket). holder_is_currency base t.holder ≡ false) f ok.shallow.unbacked
           (λ t e. refl);
       short = short-less (map (release_from f) g.tickets) g.tickets (less-release_from f g.tickets) ok.shallow.short;
     };
@@ -119,8 +121,8 @@ module _ (g : Graph) (ok : IsKept g) where
       flows = rises-remove number (is_open_as f) 0 g.next_flow g.flows ok.numbered.flows;
     };
     uncrowded = record {
-      currencies = λ c. length-release_from (is_held_by_currency c) refl f g.tickets (ok.uncrowded.currencies c);
-      flows = λ n. length-release_from (is_held_by_flow n) refl f g.tickets (ok.uncrowded.flows n);
+      currencies = λ c. length-release_from (holder_is_currency c) refl f g.tickets (ok.uncrowded.currencies c);
+      flows = λ n. length-release_from (holder_is_flow n) refl f g.tickets (ok.uncrowded.flows n);
     };
     held = holders g.tickets ok.held;
     amounts = each-release_from (λ (t : Ticket). (1 ≤ t.amount) × (t.amount ≤ 2 ^ 20)) f ok.amounts (λ t e. e);
@@ -137,29 +139,29 @@ module _ (g : Graph) (ok : IsKept g) where
           count-remove_same (λ (e : NameBytes × OpenFlow). nat_eq e.1.number n) (is_open_as f) g.flows
           (λ e same. apart n other e.1.number same)
 
-      holder : (h : Holder) → (b : Bool) → is_held_by_flow f h ≡ b
+      holder : (h : Holder) → (b : Bool) → holder_is_flow f h ≡ b
           → IsHolderKnown g h → IsHolderKnown (remove_flow g f) (cond b Nobody h)
       holder h true same e = tt
       holder Nobody false same e = tt
       holder (Currency c) false same e = e
       holder (Flow n) false same e = let s = stay n same in omega arith
 
-      at : (t : Ticket) → IsHolderKnown (remove_flow g f) (cond (is_held_by_flow f t.holder) Nobody t.holder)
+      at : (t : Ticket) → IsHolderKnown (remove_flow g f) (cond (holder_is_flow f t.holder) Nobody t.holder)
           → IsHolderKnown (remove_flow g f) (release_from f t).holder
-      at t e = by (is_held_by_flow f t.holder) e
+      at t e = by (holder_is_flow f t.holder) e
         where
           by : (b : Bool) → IsHolderKnown (remove_flow g f) (cond b Nobody t.holder)
-              → IsHolderKnown (remove_flow g f) (cond b (held_by Nobody t) t).holder
+              → IsHolderKnown (remove_flow g f) (cond b (with_its_holder Nobody t) t).holder
           by true e = e
           by false e = e
 
       holders : (ts : List Ticket) → Each (λ (t : Ticket). IsHolderKnown g t.holder) ts
           → Each (λ (t : Ticket). IsHolderKnown (remove_flow g f) t.holder) (map (release_from f) ts)
       holders [] e = tt
-      holders (t ∷ ts) e = (at t (holder t.holder (is_held_by_flow f t.holder) refl e.0), holders ts e.1)
+      holders (t ∷ ts) e = (at t (holder t.holder (holder_is_flow f t.holder) refl e.0), holders ts e.1)
 
-  pub kept-set_active : (f : ℕ) (b : Bool) → IsKept (set_active g f b)
-  kept-set_active f b = record {
+  pub well_formed-set_active : (f : ℕ) (b : Bool) → IsWellFormed (set_active g f b)
+  well_formed-set_active f b = record {
     sound = record {
       names = ok.sound.names;
       flow_names = λ c.

@@ -14,11 +14,12 @@ use Rattle.share_model.specs.declared.funding.Holder.{Holder}
 use Rattle.share_model.specs.declared.funding.Holder.TheVariants.{Nobody, Currency, Flow}
 use Rattle.share_model.specs.declared.funding.Ticket.{Ticket}
 use Rattle.share_model.specs.declared.funding.OpenFlow.{OpenFlow}
-use Rattle.share_model.specs.funding.Graph.{NameBytes, base, Graph, is_held_by_currency, is_held_by_flow}
+use Rattle.share_model.specs.funding.Graph.{NameBytes, base, Graph, holder_is_currency, holder_is_flow}
 use Rattle.share_model.specs.funding.Graph.{denominated_in}
 use Rattle.share_model.specs.funding.Graph.{backing, funding, is_active_flow, is_active_holder, act, is_active, active}
 use Rattle.share_model.specs.funding.Graph.{worth_by, val, worth, tickets}
-use Rattle.share_model.specs.funding.Changes.{is_numbered, ticket_of, is_held, is_found_held, made_ticket, added_flow}
+use Rattle.share_model.specs.funding.Changes.{is_numbered, ticket_of, has_holder, has_found_holder, made_ticket}
+use Rattle.share_model.specs.funding.Changes.{added_flow}
 use Rattle.share_model.specs.funding.Changes.{make_ticket, remove_ticket, add_flow}
 use Rattle.share_model.specs.funding.Laws.{LeavesTickets}
 use Rattle.share_model.proofs.lemmas.lists.CountLemmas.{any-filter}
@@ -28,10 +29,10 @@ use Rattle.share_model.proofs.lemmas.funding.RefusalLemmas.{not-refused}
 use Rattle.share_model.proofs.lemmas.funding.ShareLemmas.{active_amount, active-is}
 
 -- The same tickets have a holder: what fails, or is nothing, for a ticket without one comes out alike.
-pub record IsHeldAlike (ts us : List Ticket) : Type 0 where
-  pub any : (p : Ticket → Bool) → ((t : Ticket) → is_held t.holder ≡ false → p t ≡ false)
+pub record IsHolderAlike (ts us : List Ticket) : Type 0 where
+  pub any : (p : Ticket → Bool) → ((t : Ticket) → has_holder t.holder ≡ false → p t ≡ false)
       → list_any p ts ≡ list_any p us
-  pub sum : (w : Ticket → ℕ) → ((t : Ticket) → is_held t.holder ≡ false → w t ≡ 0) → sum_by w ts ≡ sum_by w us
+  pub sum : (w : Ticket → ℕ) → ((t : Ticket) → has_holder t.holder ≡ false → w t ≡ 0) → sum_by w ts ≡ sum_by w us
 
 cond_nothing : (b : Bool) → ◌≡◌ {A = ℕ} (cond b 0 0) 0
 cond_nothing true = refl
@@ -39,17 +40,17 @@ cond_nothing false = refl
 
 -- A ticket without a holder is not active, and worth nothing.
 module _ (g : Graph) where
-  unheld-holder : (a : Ticket → Bool) (o : Holder) → is_held o ≡ false → is_active_holder g a o ≡ false
+  unheld-holder : (a : Ticket → Bool) (o : Holder) → has_holder o ≡ false → is_active_holder g a o ≡ false
   unheld-holder a Nobody e = refl
   unheld-holder a (Currency c) e = absurd cc
   unheld-holder a (Flow f) e = absurd cc
 
-  unheld-act : (n : ℕ) (t : Ticket) → is_held t.holder ≡ false → act g n t ≡ false
+  unheld-act : (n : ℕ) (t : Ticket) → has_holder t.holder ≡ false → act g n t ≡ false
   unfolding act
   unheld-act zero t e = refl
   unheld-act (suc n) t e = unheld-holder (act g n) t.holder e
 
-  unheld-amount : (t : Ticket) → is_held t.holder ≡ false → active_amount g t ≡ 0
+  unheld-amount : (t : Ticket) → has_holder t.holder ≡ false → active_amount g t ≡ 0
   unfolding is_active
   unheld-amount t e = ap (λ b. cond b t.amount 0) (unheld-act 9 t e)
 
@@ -60,7 +61,7 @@ module _ (g : Graph) where
       (λ b. cond b
       (cond (bytes_eq t.denomination base) t.amount (value t.denomination * t.amount / active g t.denomination)) 0) e
 
-  unheld-worth : (value : NameBytes → ℕ) (t : Ticket) → is_held t.holder ≡ false → worth_by g value t ≡ 0
+  unheld-worth : (value : NameBytes → ℕ) (t : Ticket) → has_holder t.holder ≡ false → worth_by g value t ≡ 0
   unfolding is_active
   unheld-worth value t e = idle-worth value t (unheld-act 9 t e)
 
@@ -69,9 +70,9 @@ module _ (g : Graph) where
   unfolding tickets funding worth is_active act
   idle-none f idle =
       ap (min (2 ^ 20))
-      (sum_by-filter (worth_by g (val g 9)) (λ (t : Ticket). is_held_by_flow f t.holder) g.tickets
-      ∙ sum_by-same (λ (t : Ticket). cond (is_held_by_flow f t.holder) (worth_by g (val g 9) t) 0) (λ (t : Ticket). 0)
-      g.tickets (λ t. by t t.holder (is_held_by_flow f t.holder) refl (idle-worth (val g 9) t))
+      (sum_by-filter (worth_by g (val g 9)) (λ (t : Ticket). holder_is_flow f t.holder) g.tickets
+      ∙ sum_by-same (λ (t : Ticket). cond (holder_is_flow f t.holder) (worth_by g (val g 9) t) 0) (λ (t : Ticket). 0)
+      g.tickets (λ t. by t t.holder (holder_is_flow f t.holder) refl (idle-worth (val g 9) t))
       ∙ nothing g.tickets)
     where
       nothing : (ts : List Ticket) → sum_by (λ (t : Ticket). 0) ts ≡ 0
@@ -81,7 +82,7 @@ module _ (g : Graph) where
       same : (m : ℕ) → nat_eq f m ≡ true → f ≡ m
       same m e = grind (arith, nat_tests)
 
-      by : (t : Ticket) (o : Holder) (b : Bool) → is_held_by_flow f o ≡ b
+      by : (t : Ticket) (o : Holder) (b : Bool) → holder_is_flow f o ≡ b
           → (is_active_holder g (act g 8) o ≡ false → worth_by g (val g 9) t ≡ 0)
           → cond b (worth_by g (val g 9) t) 0 ≡ 0
       by t o false e none = refl
@@ -90,7 +91,7 @@ module _ (g : Graph) where
       by t (Flow m) true e none = none (ap (is_active_flow g) (sym (same m e)) ∙ idle)
 
 -- Two graphs
-module _ (g h : Graph) (held : IsHeldAlike g.tickets h.tickets)
+module _ (g h : Graph) (held : IsHolderAlike g.tickets h.tickets)
     (flows : (f : ℕ) → is_active_flow g f ≡ is_active_flow h f) where
   holder-alike : (n : ℕ) → ((t : Ticket) → act g n t ≡ act h n t) → (o : Holder)
       → is_active_holder g (act g n) o ≡ is_active_holder h (act h n) o
@@ -111,7 +112,7 @@ module _ (g h : Graph) (held : IsHeldAlike g.tickets h.tickets)
   act-alike zero t = refl
   act-alike (suc n) t = holder-alike n (act-alike n) t.holder
 
-  sum-alike : (q : Ticket → Bool) (v w : Ticket → ℕ) → ((t : Ticket) → is_held t.holder ≡ false → v t ≡ 0)
+  sum-alike : (q : Ticket → Bool) (v w : Ticket → ℕ) → ((t : Ticket) → has_holder t.holder ≡ false → v t ≡ 0)
       → ((t : Ticket) → v t ≡ w t) → sum_by v (filter q g.tickets) ≡ sum_by w (filter q h.tickets)
   sum-alike q v w none same =
       sum_by-filter v q g.tickets
@@ -140,13 +141,13 @@ module _ (g h : Graph) (held : IsHeldAlike g.tickets h.tickets)
   unfolding val backing
   val-alike zero c = refl
   val-alike (suc n) c =
-      sum-alike (λ (t : Ticket). is_held_by_currency c t.holder) (worth_by g (val g n)) (worth_by h (val h n))
+      sum-alike (λ (t : Ticket). holder_is_currency c t.holder) (worth_by g (val g n)) (worth_by h (val h n))
       (unheld-worth g (val g n)) (worth-alike (val g n) (val h n) (val-alike n))
 
   pub uncapped-alike : (f : ℕ) → sum_by (worth g 9) (funding g.tickets f) ≡ sum_by (worth h 9) (funding h.tickets f)
   unfolding funding worth
   uncapped-alike f =
-      sum-alike (λ (t : Ticket). is_held_by_flow f t.holder) (worth_by g (val g 9)) (worth_by h (val h 9))
+      sum-alike (λ (t : Ticket). holder_is_flow f t.holder) (worth_by g (val g 9)) (worth_by h (val h 9))
       (unheld-worth g (val g 9)) (worth-alike (val g 9) (val h 9) (val-alike 9))
 
   pub tickets-alike : (f : ℕ) → tickets g f ≡ tickets h f
@@ -154,10 +155,10 @@ module _ (g h : Graph) (held : IsHeldAlike g.tickets h.tickets)
   tickets-alike f = ap (min (2 ^ 20)) (uncapped-alike f)
 
 -- Lists in which the same tickets have a holder
-pub alike-same : (ts : List Ticket) → IsHeldAlike ts ts
+pub alike-same : (ts : List Ticket) → IsHolderAlike ts ts
 alike-same ts = record { any = λ p none. refl; sum = λ w none. refl }
 
-alike-made : (ts : List Ticket) (t : Ticket) → is_held t.holder ≡ false → IsHeldAlike (ts ++ t ∷ []) ts
+alike-made : (ts : List Ticket) (t : Ticket) → has_holder t.holder ≡ false → IsHolderAlike (ts ++ t ∷ []) ts
 alike-made ts t unheld = record {
   any = λ p none.
       list_any-append p ts (t ∷ []) ∙ ap (λ b. list_any p ts || (b || false)) (none t unheld)
@@ -165,14 +166,14 @@ alike-made ts t unheld = record {
   sum = λ w none. sum_by_push w ts t ∙ ap (λ n. sum_by w ts + n) (none t unheld) ∙ omega arith;
 }
 
-alike-removed : (p : Ticket → Bool) (ts : List Ticket) → is_found_held (find p ts) ≡ false
-    → IsHeldAlike (remove_key p ts) ts
+alike-removed : (p : Ticket → Bool) (ts : List Ticket) → has_found_holder (find p ts) ≡ false
+    → IsHolderAlike (remove_key p ts) ts
 alike-removed p [] unheld = alike-same []
 alike-removed p (t ∷ ts) unheld = by (p t) unheld (alike-removed p ts)
   where
-    by : (b : Bool) → is_found_held (cond b (Some t) (find p ts)) ≡ false
-        → (is_found_held (find p ts) ≡ false → IsHeldAlike (remove_key p ts) ts)
-        → IsHeldAlike (cond b ts (t ∷ remove_key p ts)) (t ∷ ts)
+    by : (b : Bool) → has_found_holder (cond b (Some t) (find p ts)) ≡ false
+        → (has_found_holder (find p ts) ≡ false → IsHolderAlike (remove_key p ts) ts)
+        → IsHolderAlike (cond b ts (t ∷ remove_key p ts)) (t ∷ ts)
     by true unheld rest = record {
       any = λ q none. sym (ap (λ b. b || list_any q ts) (none t unheld));
       sum = λ w none. sym (sum_by-cons w t ts ∙ ap (λ n. n + sum_by w ts) (none t unheld) ∙ omega arith);
@@ -192,7 +193,7 @@ leaves-tickets g = record {
       tickets-alike (make_ticket g amount c) g (alike-made g.tickets (made_ticket g amount c) refl) (λ f. refl);
   remove_ticket = λ n f none.
       let one = not-refused (not (is_some (ticket_of g n))) NoTicket _ none in
-      let two = not-refused (is_found_held (ticket_of g n)) Funding _ one.1 in
+      let two = not-refused (has_found_holder (ticket_of g n)) Funding _ one.1 in
       tickets-alike (remove_ticket g n) g (alike-removed (is_numbered n) g.tickets two.0) (λ f. refl) f;
   add_flow = λ name.
       tickets-alike (add_flow g name) g (alike-same g.tickets)

@@ -9,7 +9,7 @@ use Rattle.share_model.specs.declared.funding.OpenFlow.{OpenFlow}
 use Rattle.share_model.specs.declared.funding.Ticket.{Ticket}
 use Rattle.share_model.specs.funding.Graph.{NameBytes, base, Graph, denominated_in, is_active_flow, is_active, active}
 use Rattle.share_model.specs.funding.Graph.{tickets}
-use Rattle.share_model.specs.funding.Kept.{IsWellNamed}
+use Rattle.share_model.specs.funding.WellFormed.{IsWellNamed}
 use Rattle.share_model.specs.funding.Laws.{uncapped_tickets, issued_amount}
 use Rattle.share_model.proofs.lemmas.funding.HolderLemmas.{idle-none}
 use Rattle.share_model.proofs.lemmas.funding.ShareLemmas.{active-is, flows-within}

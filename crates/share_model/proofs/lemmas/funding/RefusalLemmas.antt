@@ -10,7 +10,7 @@ use Rattle.share_base.specs.declared.refusal.Refusal.{Refusal}
 use Rattle.share_model.specs.declared.funding.OpenFlow.{OpenFlow}
 use Rattle.share_model.specs.funding.Graph.{NameBytes, Graph}
 use Rattle.share_model.specs.funding.Changes.{is_currency, flow_number}
-use Rattle.share_model.specs.funding.Kept.{names_of, times, times_named, times_open}
+use Rattle.share_model.specs.funding.WellFormed.{names_of, times, times_named, times_open}
 use Rattle.share_model.proofs.lemmas.lists.SumLemmas.{same_name, name_sym}
 use Rattle.share_model.proofs.lemmas.lists.CountLemmas.{count-more, count-none_of}
 use Rattle.share_model.proofs.lemmas.funding.SettledGraphLemmas.{any_none}

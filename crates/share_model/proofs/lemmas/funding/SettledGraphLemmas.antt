@@ -10,11 +10,11 @@ use Rattle.std.proofs.lemmas.Bool.Decides.{nat_tests}
 use Rattle.share_model.specs.declared.funding.Holder.{Holder}
 use Rattle.share_model.specs.declared.funding.Holder.TheVariants.{Nobody, Currency, Flow}
 use Rattle.share_model.specs.declared.funding.Ticket.{Ticket}
-use Rattle.share_model.specs.funding.Graph.{NameBytes, base, Graph, is_held_by_currency, denominated_in, backing}
+use Rattle.share_model.specs.funding.Graph.{NameBytes, base, Graph, holder_is_currency, denominated_in, backing}
 use Rattle.share_model.specs.funding.Graph.{is_active_holder, act, is_active, active, worth_by, val, leads_on, chain}
 use Rattle.share_model.specs.funding.Graph.{runs}
 use Rattle.share_model.specs.lists.Each.{Each}
-use Rattle.share_model.specs.funding.Kept.{IsShallow}
+use Rattle.share_model.specs.funding.WellFormed.{IsShallow}
 use Rattle.share_model.proofs.lemmas.lists.FirstItemLemmas.{each_map}
 use Rattle.share_model.proofs.lemmas.lists.SumLemmas.{same_name, name_same, name_refl, name_sym, Each-all}
 use Rattle.share_model.proofs.lemmas.lists.SumLemmas.{sum_by-same_of}
@@ -101,7 +101,7 @@ runs-none ts (suc n) a none =
     step rest (Flow f) none = refl
 
 -- no chain of eight steps begins at what a ticket funds
-pub holder-short : (g : Graph) → IsShallow g → (h : Holder) → is_held_by_currency base h ≡ false
+pub holder-short : (g : Graph) → IsShallow g → (h : Holder) → holder_is_currency base h ≡ false
     → leads_on (runs g.tickets 8) h ≡ false
 holder-short g ok Nobody e = refl
 holder-short g ok (Currency c) e = runs-none g.tickets 8 c (λ b. ok.short c b (other (bytes_eq c base) refl))
@@ -127,13 +127,13 @@ module _ (g : Graph) (P : ℕ → Ticket → Bool)
       (λ t short. act-any n t.holder short ∙ sym (step n t)) (denominated_in g.tickets c)
       (any_none (λ (t : Ticket). leads_on (runs g.tickets n) t.holder) (denominated_in g.tickets c) e))
 
-  pub act-is : IsShallow g → (t : Ticket) → is_held_by_currency base t.holder ≡ false → is_active g t ≡ P 9 t
+  pub act-is : IsShallow g → (t : Ticket) → holder_is_currency base t.holder ≡ false → is_active g t ≡ P 9 t
   unfolding act is_active
   act-is ok t unbacked = act-any 8 t.holder (holder-short g ok t.holder unbacked) ∙ sym (step 8 t)
 
 -- any activity that meets the equation of one step is the activity
 pub act-unique : (g : Graph) → IsShallow g → (P : Ticket → Bool) → ((t : Ticket) → P t ≡ is_active_holder g P t.holder)
-    → (t : Ticket) → is_held_by_currency base t.holder ≡ false
+    → (t : Ticket) → holder_is_currency base t.holder ≡ false
     → is_active g t ≡ P t
 act-unique g ok P step t unbacked = act-is g (λ n. P) (λ n. step) ok t unbacked
 
@@ -183,7 +183,7 @@ module _ {X : Type 0} (R : X → X → Bool) (like : (x : X) → R x x ≡ true)
       )
 
 -- a ticket that funds c leads from its denomination to c
-leads-held : (c : NameBytes) (h : Holder) → leads_on (λ e. bytes_eq e c) h ≡ is_held_by_currency c h
+leads-held : (c : NameBytes) (h : Holder) → leads_on (λ e. bytes_eq e c) h ≡ holder_is_currency c h
 leads-held c Nobody = refl
 leads-held c (Currency d) = name_sym d c
 leads-held c (Flow f) = refl
@@ -199,15 +199,15 @@ step-of c ts =
     (λ (t : Ticket). list_any (λ (u : Ticket). leads_on (λ e. bytes_eq e c) u.holder)
     (filter (λ (u : Ticket). bytes_eq t.denomination u.denomination) ts) ≡ true)
     (λ t e. any-same (λ (u : Ticket). leads_on (λ e. bytes_eq e c) u.holder)
-    (λ (u : Ticket). is_held_by_currency c u.holder)
+    (λ (u : Ticket). holder_is_currency c u.holder)
     (filter (λ (u : Ticket). bytes_eq t.denomination u.denomination) ts)
     (each-leads (filter (λ (u : Ticket). bytes_eq t.denomination u.denomination) ts)) ∙ e)
-    (filter (λ (t : Ticket). is_held_by_currency c t.holder) ts)
+    (filter (λ (t : Ticket). holder_is_currency c t.holder) ts)
     (any-own (λ (t u : Ticket). bytes_eq t.denomination u.denomination) (λ t. name_refl t.denomination)
-    (λ (t : Ticket). is_held_by_currency c t.holder) ts)
+    (λ (t : Ticket). holder_is_currency c t.holder) ts)
   where
     each-leads : (us : List Ticket)
-        → Each (λ (u : Ticket). leads_on (λ e. bytes_eq e c) u.holder ≡ is_held_by_currency c u.holder) us
+        → Each (λ (u : Ticket). leads_on (λ e. bytes_eq e c) u.holder ≡ holder_is_currency c u.holder) us
     each-leads us = Each-all _ us (λ (u : Ticket). leads-held c u.holder)
 
 -- Any values that go on by the same step agree with the definition if no chain is as long.
@@ -250,13 +250,13 @@ backing-base : (g : Graph) → IsShallow g → backing g.tickets base ≡ []
 unfolding backing
 backing-base g ok = none g.tickets ok.unbacked
   where
-    none : (ts : List Ticket) → Each (λ (t : Ticket). is_held_by_currency base t.holder ≡ false) ts
-        → filter (λ (t : Ticket). is_held_by_currency base t.holder) ts ≡ []
+    none : (ts : List Ticket) → Each (λ (t : Ticket). holder_is_currency base t.holder ≡ false) ts
+        → filter (λ (t : Ticket). holder_is_currency base t.holder) ts ≡ []
     none [] e = refl
     none (t ∷ ts) e =
         ap
-        (λ b. cond b (t ∷ filter (λ (t : Ticket). is_held_by_currency base t.holder) ts)
-        (filter (λ (t : Ticket). is_held_by_currency base t.holder) ts)) e.0 ∙ none ts e.1
+        (λ b. cond b (t ∷ filter (λ (t : Ticket). holder_is_currency base t.holder) ts)
+        (filter (λ (t : Ticket). holder_is_currency base t.holder) ts)) e.0 ∙ none ts e.1
 
 module _ (g : Graph) (ok : IsShallow g) (W : ℕ → NameBytes → ℕ)
     (step : (n : ℕ) (c : NameBytes) → W (suc n) c ≡ sum_by (worth_by g (W n)) (backing g.tickets c)) where

@@ -7,11 +7,11 @@ use Rattle.share_model.specs.declared.funding.Holder.{Holder}
 use Rattle.share_model.specs.declared.funding.Holder.TheVariants.{Nobody, Currency, Flow}
 use Rattle.share_model.specs.declared.funding.Ticket.{Ticket}
 use Rattle.share_model.specs.declared.funding.OpenFlow.{OpenFlow}
-use Rattle.share_model.specs.funding.Graph.{NameBytes, base, Graph, is_held_by_currency, is_held_by_flow}
+use Rattle.share_model.specs.funding.Graph.{NameBytes, base, Graph, holder_is_currency, holder_is_flow}
 use Rattle.share_model.specs.funding.Graph.{denominated_in}
 use Rattle.share_model.specs.funding.Graph.{backing, funding, is_active, active, worth_by, val, worth, tickets}
 use Rattle.share_model.specs.lists.Each.{Each}
-use Rattle.share_model.specs.funding.Kept.{names_of, times, IsWellNamed}
+use Rattle.share_model.specs.funding.WellFormed.{names_of, times, IsWellNamed}
 use Rattle.share_model.specs.funding.Laws.{uncapped_tickets, SharesAreWithin}
 use Rattle.share_model.proofs.lemmas.lists.FirstItemLemmas.{each_map}
 use Rattle.share_model.proofs.lemmas.lists.SumLemmas.{same_name, sum_by-filter, sum_by-le_of, each-term, Each-all}
@@ -161,8 +161,8 @@ worths-within g value ok =
 
 -- a ticket is held by at most one currency or flow
 held-once : (g : Graph) → IsWellNamed g → (h : Holder)
-    → count_by (λ c. is_held_by_currency c h) g.currencies + count_by
-    (λ (e : NameBytes × OpenFlow). is_held_by_flow e.1.number h) g.flows ≤ 1
+    → count_by (λ c. holder_is_currency c h) g.currencies + count_by
+    (λ (e : NameBytes × OpenFlow). holder_is_flow e.1.number h) g.flows ≤ 1
 held-once g ok Nobody =
     omega (
       arith,
@@ -187,8 +187,8 @@ pub values-within : (g : Graph) (n : ℕ) → IsWellNamed g
     ≤ sum_by (worth g n) g.tickets
 unfolding val worth backing funding
 values-within g n ok =
-    parts-apart (λ c (t : Ticket). is_held_by_currency c t.holder)
-    (λ (e : NameBytes × OpenFlow) (t : Ticket). is_held_by_flow e.1.number t.holder) (worth g n)
+    parts-apart (λ c (t : Ticket). holder_is_currency c t.holder)
+    (λ (e : NameBytes × OpenFlow) (t : Ticket). holder_is_flow e.1.number t.holder) (worth g n)
     g.currencies g.flows g.tickets (Each-all _ g.tickets (λ (t : Ticket). held-once g ok t.holder))
 
 div-rises : (k m n : ℕ) → m ≤ n → m / k ≤ n / k

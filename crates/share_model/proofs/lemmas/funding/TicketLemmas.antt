@@ -16,15 +16,15 @@ use Rattle.share_model.proofs.lemmas.lists.FirstItemLemmas.{rises-append}
 use Rattle.share_model.specs.declared.funding.Holder.{Holder}
 use Rattle.share_model.specs.declared.funding.Holder.TheVariants.{Nobody, Currency, Flow}
 use Rattle.share_model.specs.declared.funding.Ticket.{Ticket}
-use Rattle.share_model.specs.funding.Graph.{NameBytes, base, Graph, ticket_numbers, is_held_by_currency}
-use Rattle.share_model.specs.funding.Graph.{is_held_by_flow}
+use Rattle.share_model.specs.funding.Graph.{NameBytes, base, Graph, ticket_numbers, holder_is_currency}
+use Rattle.share_model.specs.funding.Graph.{holder_is_flow}
 use Rattle.share_model.specs.funding.Graph.{backing, funding, chain_within, is_deep}
-use Rattle.share_model.specs.funding.Changes.{is_numbered, ticket_of, is_found_held, found_denomination, is_currency}
-use Rattle.share_model.specs.funding.Changes.{flow_named, flow_number, held_by, with_holder, is_amount}
+use Rattle.share_model.specs.funding.Changes.{is_numbered, ticket_of, has_found_holder, found_denomination, is_currency}
+use Rattle.share_model.specs.funding.Changes.{flow_named, flow_number, with_its_holder, with_holder, is_amount}
 use Rattle.share_model.specs.funding.Changes.{make_ticket_refusal, with_amount, amend_refusal, amend}
 use Rattle.share_model.specs.funding.Changes.{made_ticket, make_ticket, remove_ticket, unfund, fund_currency_refusal}
 use Rattle.share_model.specs.funding.Changes.{fund_currency, fund_flow_refusal, fund_flow}
-use Rattle.share_model.specs.funding.Kept.{names_of, times, IsHolderKnown, IsUncrowded, IsKept}
+use Rattle.share_model.specs.funding.WellFormed.{names_of, times, IsHolderKnown, IsUncrowded, IsWellFormed}
 use Rattle.share_model.proofs.lemmas.lists.SumLemmas.{same_name, name_sym}
 use Rattle.share_model.proofs.lemmas.lists.CountLemmas.{Each-remove, length-remove, count-remove, count-more}
 use Rattle.share_model.proofs.lemmas.lists.CountLemmas.{count-changed, count-changed_within}
@@ -39,7 +39,7 @@ length-held : (p : Holder → Bool) (n : ℕ) (h : Holder) (k : ℕ) → cond (p
     ≤ length (filter (λ (t : Ticket). p t.holder) ts) + k
 length-held p n h k few ts =
     let test : Ticket → Bool = λ t. p t.holder in
-    let within = count-changed_within test (is_numbered n) (held_by h) k (λ t. omega arith) ts in
+    let within = count-changed_within test (is_numbered n) (with_its_holder h) k (λ t. omega arith) ts in
     omega (arith, length-filter test ts, length-filter test (with_holder n h ts))
 
 held-within : (p : Holder → Bool) (n : ℕ) (h : Holder) (ts : List Ticket)
@@ -71,27 +71,27 @@ length-removed p test ts few =
 in_range : (n : ℕ) → is_amount n ≡ true → (1 ≤ n) × (n ≤ 2 ^ 20)
 in_range n e = (grind (arith, nat_tests), grind (arith, nat_tests))
 
-module _ (g : Graph) (ok : IsKept g) where
+module _ (g : Graph) (ok : IsWellFormed g) where
   -- the holder has room for one ticket more
   record HasRoom (h : Holder) : Type 0 where
-    backing_room : (c : NameBytes) → is_held_by_currency c h ≡ true → length (backing g.tickets c) + 1 ≤ 16
-    funding_room : (f : ℕ) → is_held_by_flow f h ≡ true → length (funding g.tickets f) + 1 ≤ 16
+    backing_room : (c : NameBytes) → holder_is_currency c h ≡ true → length (backing g.tickets c) + 1 ≤ 16
+    funding_room : (f : ℕ) → holder_is_flow f h ≡ true → length (funding g.tickets f) + 1 ≤ 16
 
   each-held : (n : ℕ) (h : Holder) (P : Ticket → Type 0) → Each P g.tickets
-      → ((t : Ticket) → P t → P (held_by h t)) → Each P (with_holder n h g.tickets)
-  each-held n h P each kept = each-change_first P P (is_numbered n) (held_by h) (λ t e. e) kept g.tickets each
+      → ((t : Ticket) → P t → P (with_its_holder h t)) → Each P (with_holder n h g.tickets)
+  each-held n h P each kept = each-change_first P P (is_numbered n) (with_its_holder h) (λ t e. e) kept g.tickets each
 
   uncrowded-held : (n : ℕ) (h : Holder) → HasRoom h → IsUncrowded (record g { tickets = with_holder n h g.tickets })
   unfolding backing funding
   uncrowded-held n h space = record {
     currencies =
-        λ c. held-within (is_held_by_currency c) n h g.tickets (ok.uncrowded.currencies c) (space.backing_room c);
-    flows = λ f. held-within (is_held_by_flow f) n h g.tickets (ok.uncrowded.flows f) (space.funding_room f);
+        λ c. held-within (holder_is_currency c) n h g.tickets (ok.uncrowded.currencies c) (space.backing_room c);
+    flows = λ f. held-within (holder_is_flow f) n h g.tickets (ok.uncrowded.flows f) (space.funding_room f);
   }
 
   -- a ticket gets another holder, which is there and has room
-  held-kept : (n : ℕ) (h : Holder) → is_held_by_currency base h ≡ false → IsHolderKnown g h → HasRoom h
-      → IsShort (with_holder n h g.tickets) → IsKept (record g { tickets = with_holder n h g.tickets })
+  held-kept : (n : ℕ) (h : Holder) → holder_is_currency base h ≡ false → IsHolderKnown g h → HasRoom h
+      → IsShort (with_holder n h g.tickets) → IsWellFormed (record g { tickets = with_holder n h g.tickets })
   held-kept n h unbacked known space short = record {
     sound = record {
       names = ok.sound.names;
@@ -101,13 +101,14 @@ module _ (g : Graph) (ok : IsKept g) where
     };
     shallow = record {
       unbacked =
-          each-held n h (λ (t : Ticket). is_held_by_currency base t.holder ≡ false) ok.shallow.unbacked
+          each-held n h (λ (t : Ticket). holder_is_currency base t.holder ≡ false) ok.shallow.unbacked
           (λ t e. unbacked);
       short = short;
     };
     numbered = record {
       tickets =
-          rises-changed (λ (t : Ticket). t.number) (is_numbered n) (held_by h) 0 g.next_ticket g.tickets (λ t. refl)
+          rises-changed (λ (t : Ticket). t.number) (is_numbered n) (with_its_holder h) 0 g.next_ticket
+          g.tickets (λ t. refl)
           ok.numbered.tickets;
       flows = ok.numbered.flows;
     };
@@ -115,22 +116,22 @@ module _ (g : Graph) (ok : IsKept g) where
     held = each-held n h (λ (t : Ticket). IsHolderKnown g t.holder) ok.held (λ t e. known);
     amounts = each-held n h (λ (t : Ticket). (1 ≤ t.amount) × (t.amount ≤ 2 ^ 20)) ok.amounts (λ t e. e);
     few_tickets =
-        let few = ok.few_tickets in omega (arith, length-change_first (is_numbered n) (held_by h) g.tickets);
+        let few = ok.few_tickets in omega (arith, length-change_first (is_numbered n) (with_its_holder h) g.tickets);
     few_currencies = ok.few_currencies;
     few_flows = ok.few_flows;
   }
 
-  pub kept-unfund : (n : ℕ) → IsKept (unfund g n)
-  kept-unfund n =
+  pub well_formed-unfund : (n : ℕ) → IsWellFormed (unfund g n)
+  well_formed-unfund n =
       held-kept n Nobody refl tt (record { backing_room = λ c e. absurd cc; funding_room = λ f e. absurd cc })
       (short-less (with_holder n Nobody g.tickets) g.tickets
       (less-held n Nobody g.tickets (λ on. refl)) ok.shallow.short)
 
-  pub kept-fund_flow : (n : ℕ) (f : NameBytes) → fund_flow_refusal g n f ≡ None → IsKept (fund_flow g n f)
-  kept-fund_flow n f none =
+  pub well_formed-fund_flow : (n : ℕ) (f : NameBytes) → fund_flow_refusal g n f ≡ None → IsWellFormed (fund_flow g n f)
+  well_formed-fund_flow n f none =
       let one = not-refused (not (is_some (ticket_of g n))) NoTicket _ none in
       let two = not-refused (not (is_some (flow_named g f))) NoFlow _ one.1 in
-      let three = not-refused (is_found_held (ticket_of g n)) Funding _ two.1 in
+      let three = not-refused (has_found_holder (ticket_of g n)) Funding _ two.1 in
       let number = flow_number (flow_named g f) in
       let four = not-refused (nat_le 16 (length (funding g.tickets number))) Crowded _ three.1 in
       let space = room 16 (length (funding g.tickets number)) four.0 in
@@ -142,12 +143,13 @@ module _ (g : Graph) (ok : IsKept g) where
       })
       (short-less (with_holder n h g.tickets) g.tickets (less-held n h g.tickets (λ on. refl)) ok.shallow.short)
 
-  pub kept-fund_currency : (n : ℕ) (c : NameBytes) → fund_currency_refusal g n c ≡ None → IsKept (fund_currency g n c)
-  kept-fund_currency n c none =
+  pub well_formed-fund_currency : (n : ℕ) (c : NameBytes) → fund_currency_refusal g n c ≡ None
+      → IsWellFormed (fund_currency g n c)
+  well_formed-fund_currency n c none =
       let one = not-refused (not (is_some (ticket_of g n))) NoTicket _ none in
       let two = not-refused (not (is_currency g c)) NoCurrency _ one.1 in
       let three = not-refused (bytes_eq c base) Base _ two.1 in
-      let four = not-refused (is_found_held (ticket_of g n)) Funding _ three.1 in
+      let four = not-refused (has_found_holder (ticket_of g n)) Funding _ three.1 in
       let five = not-refused (nat_le 16 (length (backing g.tickets c))) Crowded _ four.1 in
       let six = not-refused (chain_within g.tickets 8 c (found_denomination (ticket_of g n))) Cycle _ five.1 in
       let seven = not-refused (is_deep (with_holder n (Currency c) g.tickets)) Deep _ six.1 in
@@ -159,10 +161,10 @@ module _ (g : Graph) (ok : IsKept g) where
       })
       (short-from_deep (with_holder n (Currency c) g.tickets) seven.0)
 
-  pub kept-make_ticket : (amount : ℕ) (c : NameBytes) → make_ticket_refusal g amount c ≡ None
-      → IsKept (make_ticket g amount c)
+  pub well_formed-make_ticket : (amount : ℕ) (c : NameBytes) → make_ticket_refusal g amount c ≡ None
+      → IsWellFormed (make_ticket g amount c)
   unfolding backing funding
-  kept-make_ticket amount c none =
+  well_formed-make_ticket amount c none =
       let one = not-refused (not (is_amount amount)) Range _ none in
       let two = not-refused (not (is_currency g c)) NoCurrency _ one.1 in
       let three = not-refused (nat_le 1024 (length g.tickets)) TableFull _ two.1 in
@@ -178,7 +180,7 @@ module _ (g : Graph) (ok : IsKept g) where
         };
         shallow = record {
           unbacked =
-              each-append (λ (t : Ticket). is_held_by_currency base t.holder ≡ false) g.tickets (t ∷ [])
+              each-append (λ (t : Ticket). holder_is_currency base t.holder ≡ false) g.tickets (t ∷ [])
               ok.shallow.unbacked (refl, tt);
           short = short-less (g.tickets ++ t ∷ []) g.tickets (less-made g.tickets t refl) ok.shallow.short;
         };
@@ -191,8 +193,8 @@ module _ (g : Graph) (ok : IsKept g) where
         };
         uncrowded = record {
           currencies = λ d.
-              length-made (λ (t : Ticket). is_held_by_currency d t.holder) t g.tickets refl (ok.uncrowded.currencies d);
-          flows = λ f. length-made (λ (t : Ticket). is_held_by_flow f t.holder) t g.tickets refl (ok.uncrowded.flows f);
+              length-made (λ (t : Ticket). holder_is_currency d t.holder) t g.tickets refl (ok.uncrowded.currencies d);
+          flows = λ f. length-made (λ (t : Ticket). holder_is_flow f t.holder) t g.tickets refl (ok.uncrowded.flows f);
         };
         held = each-append (λ (t : Ticket). IsHolderKnown g t.holder) g.tickets (t ∷ []) ok.held (tt, tt);
         amounts =
@@ -204,9 +206,9 @@ module _ (g : Graph) (ok : IsKept g) where
         few_flows = ok.few_flows;
       }
 
-  pub kept-remove_ticket : (n : ℕ) → IsKept (remove_ticket g n)
+  pub well_formed-remove_ticket : (n : ℕ) → IsWellFormed (remove_ticket g n)
   unfolding backing funding
-  kept-remove_ticket n = record {
+  well_formed-remove_ticket n = record {
     sound = record {
       names = ok.sound.names;
       flow_names = ok.sound.flow_names;
@@ -226,10 +228,10 @@ module _ (g : Graph) (ok : IsKept g) where
     };
     uncrowded = record {
       currencies = λ c.
-          length-removed (λ (t : Ticket). is_held_by_currency c t.holder) (is_numbered n) g.tickets
+          length-removed (λ (t : Ticket). holder_is_currency c t.holder) (is_numbered n) g.tickets
           (ok.uncrowded.currencies c);
       flows = λ f.
-          length-removed (λ (t : Ticket). is_held_by_flow f t.holder) (is_numbered n) g.tickets (ok.uncrowded.flows f);
+          length-removed (λ (t : Ticket). holder_is_flow f t.holder) (is_numbered n) g.tickets (ok.uncrowded.flows f);
     };
     held = Each-remove _ (is_numbered n) g.tickets ok.held;
     amounts = Each-remove _ (is_numbered n) g.tickets ok.amounts;
@@ -253,9 +255,9 @@ module _ (g : Graph) (ok : IsKept g) where
       let same = count-changed test (is_numbered n) (with_amount amount) (λ t. refl) g.tickets in
       omega (arith, length-filter test g.tickets, length-filter test us)
 
-  pub kept-amend : (n amount : ℕ) → amend_refusal g n amount ≡ None → IsKept (amend g n amount)
+  pub well_formed-amend : (n amount : ℕ) → amend_refusal g n amount ≡ None → IsWellFormed (amend g n amount)
   unfolding backing funding
-  kept-amend n amount none =
+  well_formed-amend n amount none =
       let one = not-refused (not (is_amount amount)) Range _ none in
       record {
         sound = record {
@@ -267,7 +269,7 @@ module _ (g : Graph) (ok : IsKept g) where
         };
         shallow = record {
           unbacked =
-              each-amended n amount (λ (t : Ticket). is_held_by_currency base t.holder ≡ false) ok.shallow.unbacked
+              each-amended n amount (λ (t : Ticket). holder_is_currency base t.holder ≡ false) ok.shallow.unbacked
               (λ t e. e);
           short =
               short-less (amend g n amount).tickets g.tickets
@@ -280,8 +282,8 @@ module _ (g : Graph) (ok : IsKept g) where
           flows = ok.numbered.flows;
         };
         uncrowded = record {
-          currencies = λ c. length-amended (is_held_by_currency c) n amount (ok.uncrowded.currencies c);
-          flows = λ f. length-amended (is_held_by_flow f) n amount (ok.uncrowded.flows f);
+          currencies = λ c. length-amended (holder_is_currency c) n amount (ok.uncrowded.currencies c);
+          flows = λ f. length-amended (holder_is_flow f) n amount (ok.uncrowded.flows f);
         };
         held = each-amended n amount (λ (t : Ticket). IsHolderKnown g t.holder) ok.held (λ t e. e);
         amounts =

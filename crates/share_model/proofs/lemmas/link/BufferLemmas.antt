@@ -14,7 +14,7 @@ use Rattle.share_model.specs.link.Frame.{Packet, PacketOf}
 use Rattle.share_model.specs.link.Buffers.{Buffer, is_buffer_of, buffer_of, new_buffer, open_in, BufferOf}
 use Rattle.share_model.specs.lists.Change.{change_first}
 use Rattle.share_model.specs.link.Buffers.{with_packet, push_in, head_in, head_of_buffer, head_of, is_some_packet}
-use Rattle.share_model.specs.link.Buffers.{holds_packet, is_busy, close_in, without_head, pop_in}
+use Rattle.share_model.specs.link.Buffers.{has_packet, is_busy, close_in, without_head, pop_in}
 use Rattle.share_model.specs.funding.Graph.{NameBytes}
 use Rattle.share_model.specs.funding.Changes.{is_open_as, active_as, with_activity}
 use Rattle.share_model.specs.lists.Each.{Each}
@@ -203,8 +203,8 @@ absent f n (e ∷ es) is above =
 
 active_busy_by : (held : ℕ → Bool) (f : ℕ) (b : Buffer) (active r : Bool) (o : Option Buffer) (k : Bool)
     → active ≡ (is_some_packet b.packets && not (held b.flow)) → (k ≡ true → r ≡ false) → (k ≡ true → b.flow ≡ f)
-    → (k ≡ false → r ≡ (holds_packet o && not (held f)))
-    → ((k && active) || r) ≡ (holds_packet (if k then Some b else o) && not (held f))
+    → (k ≡ false → r ≡ (has_packet o && not (held f)))
+    → ((k && active) || r) ≡ (has_packet (if k then Some b else o) && not (held f))
 active_busy_by held f b active r o true same none own rest =
     or_none active r (none refl) ∙ (same ∙ ap (λ n. is_some_packet b.packets && not (held n)) (own refl))
 active_busy_by held f b active r o false same none own rest = rest refl
@@ -224,7 +224,7 @@ active-busy held limit f (e ∷ es) (b ∷ bs) tied rises =
     (λ k. absent f e.1.number es (eqb-true f e.1.number k) rises.1)
     (λ k. ties.number ∙ sym (eqb-true f e.1.number k))
     (λ _. active-busy held limit f es bs ties.rest rises.2)
-    ∙ ap (λ n. holds_packet (if nat_eq f n then Some b else buffer_of bs f) && not (held f)) (sym ties.number)
+    ∙ ap (λ n. has_packet (if nat_eq f n then Some b else buffer_of bs f) && not (held f)) (sym ties.number)
 
 named_by : (n : ℕ) (r : Bool) (x : NameBytes × OpenFlow) (o : Option OpenFlow) (e : OpenFlow) → n ≡ e.number
     → (k : Bool) → (o ≡ Some e → r ≡ true) → (if k then Some x.1 else o) ≡ Some e → (nat_eq n x.1.number || r) ≡ true

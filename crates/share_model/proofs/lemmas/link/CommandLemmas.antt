@@ -15,19 +15,20 @@ use Rattle.share_model.specs.lists.Rises.{has_number}
 use Rattle.share_model.specs.funding.Graph.{NameBytes, Graph, flow_numbers}
 use Rattle.share_model.specs.funding.Changes.{make_currency, remove_currency, make_ticket, remove_ticket, fund_currency}
 use Rattle.share_model.specs.funding.Changes.{fund_flow, unfund, flow_named, flow_number, amend}
-use Rattle.share_model.specs.funding.Kept.{IsKept}
+use Rattle.share_model.specs.funding.WellFormed.{IsWellFormed}
 use Rattle.share_model.proofs.lemmas.link.BufferLemmas.{number-of_named}
 use Rattle.share_model.specs.link.Live.{Live, with_one_event, by_refusal}
 use Rattle.share_model.specs.link.Commands.{open_flow_refusal, with_graph, open_flow, is_part_of, close_flow_refusal}
 use Rattle.share_model.specs.link.Commands.{close_flow, command_refusal, change_by_command, command_step, IsClosable}
 use Rattle.share_model.specs.link.Commands.{IsFunded, hold_refusal, resume_refusal, hold_flow}
 use Rattle.share_model.proofs.lemmas.funding.RefusalLemmas.{not-refused}
-use Rattle.share_model.proofs.lemmas.funding.CurrencyLemmas.{kept-make_currency, kept-remove_currency}
-use Rattle.share_model.proofs.lemmas.funding.TicketLemmas.{kept-make_ticket, kept-remove_ticket, kept-fund_currency}
-use Rattle.share_model.proofs.lemmas.funding.TicketLemmas.{kept-fund_flow, kept-unfund, kept-amend}
+use Rattle.share_model.proofs.lemmas.funding.CurrencyLemmas.{well_formed-make_currency, well_formed-remove_currency}
+use Rattle.share_model.proofs.lemmas.funding.TicketLemmas.{well_formed-make_ticket, well_formed-remove_ticket}
+use Rattle.share_model.proofs.lemmas.funding.TicketLemmas.{well_formed-fund_currency}
+use Rattle.share_model.proofs.lemmas.funding.TicketLemmas.{well_formed-fund_flow, well_formed-unfund, well_formed-amend}
 
 same_flows : (g now : Graph) → now.flows ≡ g.flows → now.next_flow ≡ g.next_flow
-    → now.next_ticket ≤ g.next_ticket + 1 → (IsKept g → IsKept now) → IsFunded g now
+    → now.next_ticket ≤ g.next_ticket + 1 → (IsWellFormed g → IsWellFormed now) → IsFunded g now
 same_flows g now flows next few kept = record { flows = flows; next_flow = next; next_ticket = few; kept = kept }
 
 named_number : (g : Graph) (name : NameBytes) (o : Option FlowEntry) → flow_named g name ≡ o
@@ -66,25 +67,25 @@ pub allowed-cases : (P : Live → Type 0) (rates : List Rate) (l : Live) (c : Co
     → P (change_by_command l c).0
 allowed-cases P rates l (MakeCurrency name) allowed funded opened closed held =
     funded (make_currency l.graph name)
-    (same_flows l.graph _ refl refl (omega arith) (λ ok. kept-make_currency l.graph ok name allowed))
+    (same_flows l.graph _ refl refl (omega arith) (λ ok. well_formed-make_currency l.graph ok name allowed))
 allowed-cases P rates l (RemoveCurrency name) allowed funded opened closed held =
     funded (remove_currency l.graph name)
-    (same_flows l.graph _ refl refl (omega arith) (λ ok. kept-remove_currency l.graph ok name allowed))
+    (same_flows l.graph _ refl refl (omega arith) (λ ok. well_formed-remove_currency l.graph ok name allowed))
 allowed-cases P rates l (MakeTicket amount currency) allowed funded opened closed held =
     funded (make_ticket l.graph amount currency)
-    (same_flows l.graph _ refl refl (omega arith) (λ ok. kept-make_ticket l.graph ok amount currency allowed))
+    (same_flows l.graph _ refl refl (omega arith) (λ ok. well_formed-make_ticket l.graph ok amount currency allowed))
 allowed-cases P rates l (RemoveTicket ticket) allowed funded opened closed held =
     funded (remove_ticket l.graph ticket)
-    (same_flows l.graph _ refl refl (omega arith) (λ ok. kept-remove_ticket l.graph ok ticket))
+    (same_flows l.graph _ refl refl (omega arith) (λ ok. well_formed-remove_ticket l.graph ok ticket))
 allowed-cases P rates l (FundCurrency ticket currency) allowed funded opened closed held =
     funded (fund_currency l.graph ticket currency)
-    (same_flows l.graph _ refl refl (omega arith) (λ ok. kept-fund_currency l.graph ok ticket currency allowed))
+    (same_flows l.graph _ refl refl (omega arith) (λ ok. well_formed-fund_currency l.graph ok ticket currency allowed))
 allowed-cases P rates l (FundFlow ticket flow) allowed funded opened closed held =
     funded (fund_flow l.graph ticket flow)
-    (same_flows l.graph _ refl refl (omega arith) (λ ok. kept-fund_flow l.graph ok ticket flow allowed))
+    (same_flows l.graph _ refl refl (omega arith) (λ ok. well_formed-fund_flow l.graph ok ticket flow allowed))
 allowed-cases P rates l (Unfund ticket) allowed funded opened closed held =
     funded (unfund l.graph ticket)
-    (same_flows l.graph _ refl refl (omega arith) (λ ok. kept-unfund l.graph ok ticket))
+    (same_flows l.graph _ refl refl (omega arith) (λ ok. well_formed-unfund l.graph ok ticket))
 allowed-cases P rates l (OpenFlow name limit tariff) allowed funded opened closed held =
     opened name limit tariff allowed
 allowed-cases P rates l (CloseFlow name) allowed funded opened closed held =
@@ -95,7 +96,7 @@ allowed-cases P rates l (Resume name) allowed funded opened closed held =
     held (flow_number (flow_named l.graph name)) false (open-resumed l name allowed)
 allowed-cases P rates l (Amend ticket amount) allowed funded opened closed held =
     funded (amend l.graph ticket amount)
-    (same_flows l.graph _ refl refl (omega arith) (λ ok. kept-amend l.graph ok ticket amount allowed))
+    (same_flows l.graph _ refl refl (omega arith) (λ ok. well_formed-amend l.graph ok ticket amount allowed))
 
 by_refusal_cases : (P : Live → Type 0) (l : Live) (o : Option Refusal) (done : Live × Reply) → P (with_one_event l)
     → (o ≡ None → P done.0) → P (by_refusal l o done).0

@@ -8,7 +8,7 @@ use Rattle.share_model.specs.link.Frame.{map_packet}
 use Rattle.share_model.specs.link.Buffers.{BufferOf, is_buffer_of, buffer_of, backlog_in, backlog_of}
 use Rattle.share_model.specs.link.Buffers.{new_buffer, open_in, close_in, count_by}
 use Rattle.share_model.specs.link.Buffers.{count_in, with_packet, push_in, is_full, without_head, pop_in, head_in}
-use Rattle.share_model.specs.link.Buffers.{head_of_buffer, head_of, is_some_packet, holds_packet, is_busy, map_buffer}
+use Rattle.share_model.specs.link.Buffers.{head_of_buffer, head_of, is_some_packet, has_packet, is_busy, map_buffer}
 use Rattle.share_model.specs.lists.Change.{change_first}
 use Rattle.share_model.proofs.lemmas.lists.FirstItemLemmas.{position-map}
 use Rattle.share_model.proofs.lemmas.lists.RemovalLemmas.{map-remove_key}
@@ -73,12 +73,12 @@ module _ {A B : Type 0} (f : A → B) where
   pub is_full-image : (b : BufferOf A) → is_full (map_buffer f b) ≡ is_full b
   is_full-image b = ap (nat_le b.limit) (length-map b.packets f)
 
-  holds_packet-image : (o : Option (BufferOf A)) → holds_packet (option_map (map_buffer f) o) ≡ holds_packet o
-  holds_packet-image None = refl
-  holds_packet-image (Some b) = some_packet-image f b.packets
+  has_packet-image : (o : Option (BufferOf A)) → has_packet (option_map (map_buffer f) o) ≡ has_packet o
+  has_packet-image None = refl
+  has_packet-image (Some b) = some_packet-image f b.packets
 
   pub is_busy-image : (bs : List (BufferOf A)) (n : ℕ) → is_busy (map (map_buffer f) bs) n ≡ is_busy bs n
-  is_busy-image bs n = ap holds_packet (buffer_of-image bs n) ∙ holds_packet-image (buffer_of bs n)
+  is_busy-image bs n = ap has_packet (buffer_of-image bs n) ∙ has_packet-image (buffer_of bs n)
 
   head_in-image : (b : BufferOf A) (ps : List A)
       → head_in (map_buffer f b) (map f ps) ≡ option_map (map_packet f) (head_in b ps)

@@ -45,11 +45,11 @@ held_behind : (k : Bool) (b : Book) (o o' : Option Book) → tariff_in o' ≡ ta
 held_behind true b o o' rest = refl
 held_behind false b o o' rest = rest
 
-held_by : (held : Bool) (b : Book) (books books' : List Book) (g : ℕ) (k : Bool)
+with_its_holder : (held : Bool) (b : Book) (books books' : List Book) (g : ℕ) (k : Bool)
     → tariff_of books' g ≡ tariff_of books g
     → tariff_of (if k then with_hold held b ∷ books else b ∷ books') g ≡ tariff_of (b ∷ books) g
-held_by held b books books' g true rest = held_first (nat_eq g b.flow) b held (find (is_book_of g) books)
-held_by held b books books' g false rest =
+with_its_holder held b books books' g true rest = held_first (nat_eq g b.flow) b held (find (is_book_of g) books)
+with_its_holder held b books books' g false rest =
     held_behind (nat_eq g b.flow) b (find (is_book_of g) books) (find (is_book_of g) books') rest
 
 pub tariff_of-held : (books : List Book) (f g : ℕ) (held : Bool)
@@ -57,4 +57,4 @@ pub tariff_of-held : (books : List Book) (f g : ℕ) (held : Bool)
 unfolding change_first
 tariff_of-held [] f g held = refl
 tariff_of-held (b ∷ books) f g held =
-    held_by held b books (books_with_hold books f held) g (nat_eq f b.flow) (tariff_of-held books f g held)
+    with_its_holder held b books (books_with_hold books f held) g (nat_eq f b.flow) (tariff_of-held books f g held)

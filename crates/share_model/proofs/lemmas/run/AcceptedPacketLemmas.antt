@@ -47,7 +47,7 @@ use Rattle.share_model.proofs.lemmas.run.EventLemmas.{state-step, state-empty}
 use Rattle.share_model.proofs.lemmas.run.ByteLemmas.{sent_of, written_as, step-written, step-failed}
 use Rattle.share_model.proofs.lemmas.run.BufferedPacketLemmas.{packet, held_pushed, held_opened, held_popped}
 use Rattle.share_model.proofs.lemmas.run.BufferedPacketLemmas.{held_closed}
-use Rattle.share_model.specs.run.History.{accepted_by, accepted_packets, packets_of, packets_in_buffer, held_packets}
+use Rattle.share_model.specs.run.History.{accepted_by, accepted_packets, packets_of, packets_in_buffer, queued_packets}
 use Rattle.share_model.specs.run.History.{sent_packets}
 
 -- Each event
@@ -57,7 +57,7 @@ use Rattle.share_model.specs.run.History.{sent_packets}
 record AreAccepted (f : ℕ) (hs : List Packet) (l : Live) (done : List Sent) : Type 0 where
   rest : List Packet
   split : hs ≡ packets_of f (sent_packets done) ++ rest
-  held : has_number f (flow_numbers l.graph.flows) ≡ true → rest ≡ held_packets l.buffers f
+  held : has_number f (flow_numbers l.graph.flows) ≡ true → rest ≡ queued_packets l.buffers f
   fresh : l.graph.next_flow ≤ f → rest ≡ []
 
 -- if flows and buffers stay
@@ -69,7 +69,7 @@ accepted_same f hs l l' done flows next buffers was = record {
   split = was.split;
   held =
       λ stands. was.held (ap (λ (es : List (NameBytes × FlowEntry)). has_number f (flow_numbers es)) (sym flows)
-      ∙ stands) ∙ ap (λ bs. held_packets bs f) (sym buffers);
+      ∙ stands) ∙ ap (λ bs. queued_packets bs f) (sym buffers);
   fresh = λ above. was.fresh (omega (arith, next));
 }
 
@@ -84,11 +84,11 @@ accepted_awake f hs l l' done g t flows next buffers was = record {
       λ stands. was.held
       (ap (has_number f) (sym (numbers-with_activity g t l.graph.flows))
       ∙ (ap (λ (es : List (NameBytes × FlowEntry)). has_number f (flow_numbers es)) (sym flows) ∙ stands))
-      ∙ ap (λ bs. held_packets bs f) (sym buffers);
+      ∙ ap (λ bs. queued_packets bs f) (sym buffers);
   fresh = λ above. was.fresh (omega (arith, next));
 }
 
-new_held : (bs : List Buffer) (f : ℕ) → buffer_of bs f ≡ None → held_packets bs f ≡ []
+new_held : (bs : List Buffer) (f : ℕ) → buffer_of bs f ≡ None → queued_packets bs f ≡ []
 new_held bs f none = ap packets_in_buffer none
 
 accepted_opened : {life : ℕ} {rates : List Rate} {l : Live} → Sound life rates l → (f : ℕ) (hs : List Packet)
@@ -109,11 +109,11 @@ accepted_opened {l = l} sound f hs done name limit tariff was = record {
     next = l.graph.next_flow
 
     by_flow : (b : Bool) → nat_eq f next ≡ b → (b || has_number f (flow_numbers l.graph.flows)) ≡ true
-        → was.rest ≡ held_packets l.buffers f
+        → was.rest ≡ queued_packets l.buffers f
     by_flow true test stands =
         let same : f ≡ next = eqb-true f next test in
         was.fresh (omega (arith, same))
-        ∙ sym (ap (held_packets l.buffers) same ∙ new_held l.buffers next (next-unbuffered sound))
+        ∙ sym (ap (queued_packets l.buffers) same ∙ new_held l.buffers next (next-unbuffered sound))
     by_flow false test stands = was.held stands
 
 accepted_closed : {life : ℕ} {rates : List Rate} {l : Live} → Sound life rates l → (f : ℕ) (hs : List Packet)
@@ -128,7 +128,7 @@ accepted_closed {l = l} sound f hs done g was = record {
 }
   where
     by_flow : (b : Bool) → nat_eq f g ≡ b → has_number f (remove_key (nat_eq g) (flow_numbers l.graph.flows)) ≡ true
-        → was.rest ≡ held_packets (close_in l.buffers g) f
+        → was.rest ≡ queued_packets (close_in l.buffers g) f
     by_flow true test stands =
         let none : false ≡ true =
         sym (has_number-remove_same l.graph.next_flow g (flow_numbers l.graph.flows) (sound-numbered sound))
@@ -222,15 +222,16 @@ accepted_whole {l = l} sound f hs done snd k is was true test =
     let same : f ≡ g = eqb-true f g test in
     let stands : has_number f (flow_numbers l.graph.flows) ≡ true =
     ap (λ n. has_number n (flow_numbers l.graph.flows)) same ∙ head-stands sound g (sending-head sound is) in
-    let taken : snd.head ∷ held_packets (pop_in l.buffers g) f ≡ held_packets l.buffers f =
+    let taken : snd.head ∷ queued_packets (pop_in l.buffers g) f ≡ queued_packets l.buffers f =
     held_popped l.buffers snd.head (sending-head sound is) f true test in
     record {
-      rest = held_packets (pop_in l.buffers g) f;
+      rest = queued_packets (pop_in l.buffers g) f;
       split =
           was.split
           ∙ (ap (λ hs. packets_of f (sent_packets done) ++ hs) (was.held stands ∙ sym taken)
-          ∙ (sym (append_assoc (packets_of f (sent_packets done)) (snd.head ∷ []) (held_packets (pop_in l.buffers g) f))
-          ∙ ap (λ hs. hs ++ held_packets (pop_in l.buffers g) f)
+          ∙ (sym (append_assoc (packets_of f (sent_packets done)) (snd.head ∷ [])
+          (queued_packets (pop_in l.buffers g) f))
+          ∙ ap (λ hs. hs ++ queued_packets (pop_in l.buffers g) f)
           (sym (sent_more done (sent_of snd) f
           ∙ ap (λ b. packets_of f (sent_packets done) ++ (if b then snd.head ∷ [] else [])) test))));
       held = λ _. refl;
@@ -321,7 +322,7 @@ pub run-accepted_packets : (version : Version) (life : ℕ) (rates : List Rate) 
     → MayFollow life rates (empty_state version) es → (f : ℕ)
     → has_number f (flow_numbers (run version rates es).live.graph.flows) ≡ true
     → packets_of f (accepted_packets rates (empty_state version) es)
-    ≡ packets_of f (sent_packets (run version rates es).done) ++ held_packets (run version rates es).live.buffers f
+    ≡ packets_of f (sent_packets (run version rates es).done) ++ queued_packets (run version rates es).live.buffers f
 run-accepted_packets version life rates es range may f stands =
     let all = run_accepted version life rates es range may f in
     all.split ∙ ap (λ hs. packets_of f (sent_packets (run version rates es).done) ++ hs) (all.held stands)

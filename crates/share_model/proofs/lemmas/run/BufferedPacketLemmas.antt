@@ -13,7 +13,7 @@ use Rattle.share_model.specs.link.Frame.{Packet}
 use Rattle.share_model.specs.link.Buffers.{Buffer, is_buffer_of, buffer_of, new_buffer, open_in, close_in, with_packet}
 use Rattle.share_model.specs.link.Buffers.{push_in, without_head, pop_in, head_in, head_of_buffer, head_of}
 use Rattle.share_model.proofs.lemmas.link.BufferLemmas.{other_buffer}
-use Rattle.share_model.specs.run.History.{held_in, packets_in_buffer, held_packets}
+use Rattle.share_model.specs.run.History.{held_in, packets_in_buffer, queued_packets}
 
 abbrev pub packet : ℕ → List ℕ → ℕ → Packet
 packet f body n = record { flow = f; seq = n; payload = body }
@@ -34,14 +34,14 @@ held_more b body (p ∷ ps) =
 
 -- a packet that is pushed comes last, under the buffer's next number
 pub held_pushed : (bs : List Buffer) (f : ℕ) (body : List ℕ) (b : Buffer) → buffer_of bs f ≡ Some b → (g : ℕ) (k : Bool)
-    → nat_eq g f ≡ k → held_packets (push_in bs f body) g
-    ≡ held_packets bs g ++ (if k then packet f body b.next ∷ [] else [])
+    → nat_eq g f ≡ k → queued_packets (push_in bs f body) g
+    ≡ queued_packets bs g ++ (if k then packet f body b.next ∷ [] else [])
 held_pushed bs f body b found g true test =
     let same : g ≡ f = eqb-true g f test in
     let flow : f ≡ b.flow = eqb-true f b.flow (find-holds (is_buffer_of f) bs b found) in
-    let before : held_packets bs g ≡ held_in b b.packets = ap (held_packets bs) same ∙ ap packets_in_buffer found in
-    let after : held_packets (push_in bs f body) g ≡ held_in (with_packet body b) (b.packets ++ body ∷ [])
-    = ap (held_packets (push_in bs f body)) same
+    let before : queued_packets bs g ≡ held_in b b.packets = ap (queued_packets bs) same ∙ ap packets_in_buffer found in
+    let after : queued_packets (push_in bs f body) g ≡ held_in (with_packet body b) (b.packets ++ body ∷ [])
+    = ap (queued_packets (push_in bs f body)) same
     ∙ (ap packets_in_buffer (find-change_first (is_buffer_of f) (with_packet body) (λ b holds. holds) bs)
     ∙ ap (λ o. packets_in_buffer (option_map (with_packet body) o)) found) in
     after ∙ (held_more b body b.packets
@@ -49,7 +49,7 @@ held_pushed bs f body b found g true test =
     ∙ ap (λ hs. hs ++ packet f body b.next ∷ []) (sym before)))
 held_pushed bs f body b found g false test =
     ap packets_in_buffer (find-change_first_other (is_buffer_of f) (is_buffer_of g) (with_packet body)
-    (other_buffer (with_packet body) (λ b. refl) g f test) bs) ∙ sym (append-nil (held_packets bs g))
+    (other_buffer (with_packet body) (λ b. refl) g f test) bs) ∙ sym (append-nil (queued_packets bs g))
 
 held_new : (f limit : ℕ) (k : Bool) (o : Option Buffer)
     → packets_in_buffer (option_or o (if k then Some (new_buffer f limit) else None)) ≡ packets_in_buffer o
@@ -58,7 +58,7 @@ held_new f limit true None = refl
 held_new f limit false None = refl
 
 -- a buffer that is opened holds no packet
-pub held_opened : (bs : List Buffer) (f limit g : ℕ) → held_packets (open_in bs f limit) g ≡ held_packets bs g
+pub held_opened : (bs : List Buffer) (f limit g : ℕ) → queued_packets (open_in bs f limit) g ≡ queued_packets bs g
 held_opened bs f limit g =
     ap packets_in_buffer (find-append (is_buffer_of g) bs (new_buffer f limit ∷ []))
     ∙ held_new f limit (nat_eq g f) (buffer_of bs g)
@@ -75,16 +75,17 @@ held_less_by (Some b) h is = held_less b b.packets h is
 
 -- the packet that is taken out was the first
 pub held_popped : (bs : List Buffer) (h : Packet) → head_of bs h.flow ≡ Some h → (f : ℕ) (k : Bool)
-    → nat_eq f h.flow ≡ k → (if k then h ∷ [] else []) ++ held_packets (pop_in bs h.flow) f ≡ held_packets bs f
+    → nat_eq f h.flow ≡ k → (if k then h ∷ [] else []) ++ queued_packets (pop_in bs h.flow) f ≡ queued_packets bs f
 held_popped bs h is f true test =
     let same : f ≡ h.flow = eqb-true f h.flow test in
-    let after : held_packets (pop_in bs h.flow) f ≡ packets_in_buffer (option_map without_head (buffer_of bs h.flow))
-    = ap (held_packets (pop_in bs h.flow)) same ∙ ap packets_in_buffer
+    let after : queued_packets (pop_in bs h.flow) f ≡ packets_in_buffer (option_map without_head (buffer_of bs h.flow))
+    = ap (queued_packets (pop_in bs h.flow)) same ∙ ap packets_in_buffer
     (find-change_first (is_buffer_of h.flow) without_head (λ b holds. holds) bs) in
-    ap (λ hs. h ∷ hs) after ∙ (sym (held_less_by (buffer_of bs h.flow) h is) ∙ ap (held_packets bs) (sym same))
+    ap (λ hs. h ∷ hs) after ∙ (sym (held_less_by (buffer_of bs h.flow) h is) ∙ ap (queued_packets bs) (sym same))
 held_popped bs h is f false test =
     ap packets_in_buffer (find-change_first_other (is_buffer_of h.flow) (is_buffer_of f) without_head
     (other_buffer without_head (λ b. refl) f h.flow test) bs)
 
-pub held_closed : (bs : List Buffer) (f g : ℕ) → nat_eq g f ≡ false → held_packets (close_in bs f) g ≡ held_packets bs g
+pub held_closed : (bs : List Buffer) (f g : ℕ) → nat_eq g f ≡ false
+    → queued_packets (close_in bs f) g ≡ queued_packets bs g
 held_closed bs f g apart = ap packets_in_buffer (find-remove_other (λ (b : Buffer). b.flow) f g apart bs)

@@ -28,7 +28,7 @@ use Rattle.share_model.specs.link.Chains.{last_link}
 use Rattle.share_model.specs.link.Commands.{command_step}
 use Rattle.share_model.specs.link.Fields.{IsBody}
 use Rattle.share_model.specs.link.Live.{Live}
-use Rattle.share_model.specs.link.Places.{IsCompeting, place_of, largest_gain, GainsWithinShare}
+use Rattle.share_model.specs.link.Gains.{IsCompeting, place_of, largest_gain, GainsWithinShare}
 use Rattle.share_model.specs.link.Tariff.{AreInRange}
 use Rattle.share_model.specs.link.Turns.{Sending, rest_of, is_whole, write_step, fault_step}
 use Rattle.share_model.specs.link.View.{LinkView}

@@ -16,7 +16,7 @@ use Rattle.share_model.proofs.lemmas.lists.FirstItemLemmas.{each_map, each-other
 use Rattle.share_model.specs.lists.Rises.{Rises, has_number}
 use Rattle.share_model.specs.funding.Graph.{NameBytes, flow_numbers}
 use Rattle.share_model.specs.funding.Changes.{without_flow}
-use Rattle.share_model.proofs.lemmas.funding.FlowLemmas.{kept-remove_flow}
+use Rattle.share_model.proofs.lemmas.funding.FlowLemmas.{well_formed-remove_flow}
 use Rattle.share_model.specs.link.Buffers.{Buffer, is_buffer_of, close_in}
 use Rattle.share_model.proofs.lemmas.link.BufferLemmas.{flows-close_in, head_of-closed_other, fillings, fillings-same}
 use Rattle.share_model.proofs.lemmas.link.BufferLemmas.{buffer_flows}
@@ -105,7 +105,7 @@ sound-close_flow {life = life} {rates = rates} {l = l} was few f may = sound-wit
         was.counts.balance;
   };
   funding = record {
-    kept = kept-remove_flow l.graph was.funding.kept f;
+    kept = well_formed-remove_flow l.graph was.funding.kept f;
     next_ticket = omega (arith, was.funding.next_ticket);
     next_flow = omega (arith, was.funding.next_flow);
   };

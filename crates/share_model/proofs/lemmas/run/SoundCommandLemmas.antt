@@ -32,8 +32,8 @@ use Rattle.share_model.proofs.lemmas.link.HoldLemmas.{is_held-opened}
 use Rattle.share_model.specs.funding.Graph.{NameBytes, Graph, flow_numbers}
 use Rattle.share_model.specs.funding.Changes.{flow_named, added_flow, add_flow_refusal, add_flow, with_activity}
 use Rattle.share_model.proofs.lemmas.funding.RefusalLemmas.{not-refused, not_false, room}
-use Rattle.share_model.proofs.lemmas.funding.CurrencyLemmas.{kept-empty}
-use Rattle.share_model.proofs.lemmas.funding.FlowLemmas.{kept-add_flow, kept-set_active}
+use Rattle.share_model.proofs.lemmas.funding.CurrencyLemmas.{well_formed-empty}
+use Rattle.share_model.proofs.lemmas.funding.FlowLemmas.{well_formed-add_flow, well_formed-set_active}
 use Rattle.share_model.specs.stride.Moves.{add}
 use Rattle.share_model.proofs.lemmas.stride.LevellingLemmas.{levelled_is_level}
 use Rattle.share_model.specs.link.Commands.{IsFunded}
@@ -253,7 +253,7 @@ sound-open_flow {life = life} {rates = rates} {l = l} was few name limit tariff 
           subst (λ n. CountsAreSound life (with_one_event l).counts n (torn_gone l.broken l.torn))
           (sym (packets_in-open_in l.buffers next limit)) (counts-later was.counts few);
       funding = record {
-        kept = kept-add_flow l.graph was.funding.kept name may.allowed;
+        kept = well_formed-add_flow l.graph was.funding.kept name may.allowed;
         next_ticket = omega (arith, was.funding.next_ticket);
         next_flow = omega (arith, was.funding.next_flow);
       };
@@ -339,7 +339,7 @@ sound-accept {life = life} {l = l} was few f body short b found = sound-with_lev
     balance = omega (arith, was.counts.balance, packets_in-push_in l.buffers f body b found);
   };
   funding = record {
-    kept = kept-set_active l.graph was.funding.kept f (not (is_held l.books f));
+    kept = well_formed-set_active l.graph was.funding.kept f (not (is_held l.books f));
     next_ticket = omega (arith, was.funding.next_ticket);
     next_flow = omega (arith, was.funding.next_flow);
   };
@@ -387,7 +387,7 @@ pub sound-empty : (version : Version) (life : ℕ) (rates : List Rate) → Sound
 sound-empty version life rates = record {
   fresh = λ _. refl;
   counts = record { events = omega arith; accepted = omega arith; sent = omega arith; balance = refl };
-  funding = record { kept = kept-empty; next_ticket = omega arith; next_flow = omega arith };
+  funding = record { kept = well_formed-empty; next_ticket = omega arith; next_flow = omega arith };
   flows = record { buffered = refl; booked = refl; active = refl };
   queue = queue-empty_queue life;
   level = tt;

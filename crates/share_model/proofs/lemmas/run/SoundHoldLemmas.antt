@@ -9,13 +9,13 @@ use Rattle.share_model.specs.declared.funding.OpenFlow.{OpenFlow as FlowEntry}
 use Rattle.share_model.specs.funding.Graph.{NameBytes, flow_numbers}
 use Rattle.share_model.specs.funding.Changes.{with_activity}
 use Rattle.share_model.specs.link.Books.{is_book_of, is_held, with_hold, books_with_hold}
-use Rattle.share_model.specs.link.Buffers.{Buffer, is_buffer_of, holds_packet, is_busy, is_some_packet}
+use Rattle.share_model.specs.link.Buffers.{Buffer, is_buffer_of, has_packet, is_busy, is_some_packet}
 use Rattle.share_model.specs.link.Commands.{hold_flow}
 use Rattle.share_model.specs.link.Live.{Live}
 use Rattle.share_model.specs.lists.Change.{change_first}
 use Rattle.share_model.specs.lists.Rises.{Rises, has_number}
 use Rattle.share_model.specs.run.Sound.{Sound, FlowsAreTied, QueueIsSound, IsOnShelf, accounts_in}
-use Rattle.share_model.proofs.lemmas.funding.FlowLemmas.{kept-set_active}
+use Rattle.share_model.proofs.lemmas.funding.FlowLemmas.{well_formed-set_active}
 use Rattle.share_model.proofs.lemmas.link.BufferLemmas.{numbers-with_activity, activities-changed}
 use Rattle.share_model.proofs.lemmas.link.HoldLemmas.{is_held-with_hold, is_held-with_hold_other}
 use Rattle.share_model.proofs.lemmas.lists.FirstItemLemmas.{map-change_first, each-change_first, is_some-find_number}
@@ -70,7 +70,7 @@ flows_held limit f held {es = es} {bs = bs} {books = books} was rises stands =
           (λ b found. ap (λ g. is_some_packet b.packets && not (is_held (books_with_hold books f held) g))
           (found-own bs f b found)
           ∙ (ap (λ h. is_some_packet b.packets && not h) (is_held-with_hold books f held booked)
-          ∙ ap (λ some. some && not held) (sym (ap holds_packet found))))
+          ∙ ap (λ some. some && not held) (sym (ap has_packet found))))
           ∙ ap (λ bs. map (λ (b : Buffer). is_some_packet b.packets
           && not (is_held (books_with_hold books f held) b.flow)) bs) (unchanged f bs);
     }
@@ -81,7 +81,7 @@ sound-hold_flow {life = life} {rates = rates} {l = l} was few f held stands = so
   some = omega arith;
   counts = counts-later was.counts few;
   funding = record {
-    kept = kept-set_active l.graph was.funding.kept f (is_busy l.buffers f && not held);
+    kept = well_formed-set_active l.graph was.funding.kept f (is_busy l.buffers f && not held);
     next_ticket = omega (arith, was.funding.next_ticket);
     next_flow = omega (arith, was.funding.next_flow);
   };

@@ -29,7 +29,7 @@ use Rattle.share_model.proofs.lemmas.link.BufferLemmas.{active-busy}
 use Rattle.share_model.proofs.lemmas.link.BufferLemmas.{number-of_named}
 use Rattle.share_model.proofs.lemmas.lists.FirstItemLemmas.{rises-fresh, rises-below}
 use Rattle.share_model.specs.funding.Graph.{NameBytes, Graph, is_active_flow, act, is_active, worth_by, val, worth}
-use Rattle.share_model.specs.funding.Graph.{funding, tickets, is_held_by_flow, is_active_holder}
+use Rattle.share_model.specs.funding.Graph.{funding, tickets, holder_is_flow, is_active_holder}
 use Rattle.share_model.specs.funding.Changes.{flow_named}
 use Rattle.share_model.specs.link.Live.{Live}
 use Rattle.share_model.specs.link.Turns.{Sending, frame_of, sending_at, frame_in_part, sending_by, sending, rest_of}
@@ -141,13 +141,13 @@ books_with_units-few_more rates f units (b ∷ bs) range few =
 
 -- The tickets of a flow that is not active
 
-holder_idle : (g : Graph) (f : ℕ) (a : Ticket → Bool) (h : Holder) → is_held_by_flow f h ≡ true
+holder_idle : (g : Graph) (f : ℕ) (a : Ticket → Bool) (h : Holder) → holder_is_flow f h ≡ true
     → is_active_flow g f ≡ false → is_active_holder g a h ≡ false
 holder_idle g f a Nobody held idle = refl
 holder_idle g f a (Currency c) held idle = cc
 holder_idle g f a (Flow f') held idle = ap (is_active_flow g) (sym (eqb-true f f' held)) ∙ idle
 
-ticket_idle : (g : Graph) (f : ℕ) (t : Ticket) → is_held_by_flow f t.holder ≡ true → is_active_flow g f ≡ false
+ticket_idle : (g : Graph) (f : ℕ) (t : Ticket) → holder_is_flow f t.holder ≡ true → is_active_flow g f ≡ false
     → is_active g t ≡ false
 unfolding is_active act
 ticket_idle g f t held idle = holder_idle g f (act g 8) t.holder held idle
@@ -160,13 +160,13 @@ sum_none_add : (n : ℕ) → n ≡ 0 → 0 + n ≡ 0
 sum_none_add n none = omega arith
 
 sum_none : (f : ℕ) (g : Graph) (value : NameBytes → ℕ) (ts : List Ticket) → is_active_flow g f ≡ false
-    → sum_by (worth_by g value) (filter (λ t. is_held_by_flow f t.holder) ts) ≡ 0
+    → sum_by (worth_by g value) (filter (λ t. holder_is_flow f t.holder) ts) ≡ 0
 sum_none f g value [] idle = refl
 sum_none f g value (t ∷ ts) idle =
-    cond_both (is_held_by_flow f t.holder) (t ∷ filter (λ t. is_held_by_flow f t.holder) ts)
-    (filter (λ t. is_held_by_flow f t.holder) ts) (λ us. sum_by (worth_by g value) us ≡ 0)
-    (λ held. sum_by-cons (worth_by g value) t (filter (λ t. is_held_by_flow f t.holder) ts)
-    ∙ (ap (λ n. n + sum_by (worth_by g value) (filter (λ t. is_held_by_flow f t.holder) ts))
+    cond_both (holder_is_flow f t.holder) (t ∷ filter (λ t. holder_is_flow f t.holder) ts)
+    (filter (λ t. holder_is_flow f t.holder) ts) (λ us. sum_by (worth_by g value) us ≡ 0)
+    (λ held. sum_by-cons (worth_by g value) t (filter (λ t. holder_is_flow f t.holder) ts)
+    ∙ (ap (λ n. n + sum_by (worth_by g value) (filter (λ t. holder_is_flow f t.holder) ts))
     (worth_idle g value t (ticket_idle g f t held idle)) ∙ sum_none_add _ (sum_none f g value ts idle)))
     (λ _. sum_none f g value ts idle)
 

@@ -12,11 +12,11 @@ use Rattle.share_model.specs.declared.rates.Rate.{Rate}
 use Rattle.share_model.specs.link.Fields.{IsBody}
 use Rattle.share_model.specs.link.Tariff.{AreInRange}
 use Rattle.share_model.specs.link.Buffers.{Buffer, is_buffer_of, buffer_of, head_of, without_head, pop_in}
-use Rattle.share_model.specs.link.Buffers.{is_some_packet, holds_packet, is_busy}
+use Rattle.share_model.specs.link.Buffers.{is_some_packet, has_packet, is_busy}
 use Rattle.share_model.proofs.lemmas.link.BufferLemmas.{flows-pop_in, numbers-with_activity, fillings, fillings-same}
 use Rattle.share_model.proofs.lemmas.link.BufferLemmas.{buffer_flows}
 use Rattle.share_model.proofs.lemmas.link.HoldLemmas.{is_held-posted}
-use Rattle.share_model.proofs.lemmas.funding.FlowLemmas.{kept-set_active}
+use Rattle.share_model.proofs.lemmas.funding.FlowLemmas.{well_formed-set_active}
 use Rattle.share_model.specs.link.Live.{Live}
 use Rattle.share_model.specs.link.Turns.{Sending, frame_of, sending, rest_of}
 use Rattle.share_model.specs.link.Books.{is_book_of, units_due, with_units}
@@ -68,7 +68,7 @@ booked_posted rates bs f units =
 popped_busy : (bs : List Buffer) (f : ℕ) (b : Buffer) → buffer_of bs f ≡ Some b
     → is_some_packet (without_head b).packets ≡ is_busy (pop_in bs f) f
 popped_busy bs f b found =
-    sym (ap holds_packet (find-change_first (is_buffer_of f) without_head (λ b holds. holds) bs
+    sym (ap has_packet (find-change_first (is_buffer_of f) without_head (λ b holds. holds) bs
     ∙ ap (option_map without_head) found))
 
 -- a posting changes no activity
@@ -107,7 +107,7 @@ sound-whole {life = life} {rates = rates} {l = l} {s = s} range was few unbroken
         balance = omega (arith, was.counts.balance, packets_in-pop_in l.buffers f s.head head);
       };
       funding = record {
-        kept = kept-set_active l.graph was.funding.kept f awake;
+        kept = well_formed-set_active l.graph was.funding.kept f awake;
         next_ticket = omega (arith, was.funding.next_ticket);
         next_flow = omega (arith, was.funding.next_flow);
       };

@@ -11,6 +11,6 @@ returns-in-Ok g c =
       closed = c.close.result;
       reasons = c.reasons-reasons.result;
       closing = c.close.ensures;
-      result_is = c.told.ensures.result;
-      reason_is = c.told.ensures.reason;
+      result_is = c.result_of.ensures.result;
+      reason_is = c.result_of.ensures.reason;
     })

@@ -7,4 +7,4 @@ pub returns : goal.returns
 unfolding line_text
 returns g c =
     c.push_str.ensures.bytes ∙ ap (λ t. t ++ 10 ∷ []) c.push_outcome.ensures.bytes
-    ∙ append_assoc (g.T.Text.held c.args.text.now) (outcome_text c.args.outcome.now) _
+    ∙ append_assoc (g.T.Text.contents c.args.text.now) (outcome_text c.args.outcome.now) _

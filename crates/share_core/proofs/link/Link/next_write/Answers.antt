@@ -5,12 +5,12 @@ use Rattle.share_model.specs.link.Buffers.{head_of}
 use Rattle.share_model.specs.link.Turns.{sending_at}
 use Rattle.share_model.specs.link.View.{LinkView}
 use Rattle.share_model.proofs.lemmas.run.SoundLinkLemmas.{tariff-shelf}
-use Rattle.share_flows.specs.Places.{Stands}
+use Rattle.share_flows.specs.BufferHandles.{Stands}
 use Rattle.share_flows.proofs.FirstItemLemmas.{is_found}
 use Rattle.share_core.specs.declared.next_write.NextWrite.{NextWrite}
 use Rattle.share_core.specs.NextWrite.{IsNextWriteOf}
 use Rattle.share_core.proofs.NextWriteLemmas.{head_placed}
-use Rattle.share_core.proofs.BufferPlaceLemmas.{booked_at}
+use Rattle.share_core.proofs.BufferHandleLemmas.{booked_at}
 use Rattle.share_core.proofs.link.Link.next_write.Goals as goal
 
 pub tariff_at-requires : goal.tariff_at-requires
@@ -20,9 +20,9 @@ tariff_at-requires g c =
 pub overflow_cast-result : goal.overflow_cast-result
 overflow_cast-result g c =
     let sound = c.self.invariant.1 in
-    let place = c.in_ok-buffer.buffer in
-    let booked = is_found (is_book_of place.flow) _ place.at (booked_at sound place c.in_ok-buffer.ensures.2) in
-    let shelf = tariff-shelf (g.met.S.Rates.in_range c.self.inside.shelf) sound place.flow booked in
+    let due = c.in_ok-buffer.buffer in
+    let booked = is_found (is_book_of due.flow) _ due.at (booked_at sound due c.in_ok-buffer.ensures.2) in
+    let shelf = tariff-shelf (g.met.S.Rates.in_range c.self.inside.shelf) sound due.flow booked in
     omega (arith, c.tariff_at.ensures, shelf.1)
 
 pub returns : goal.returns
@@ -30,7 +30,7 @@ returns g c =
     let l = c.args.self.now.live in
     let buffer = c.in_ok-buffer.buffer in
     let payload = c.as_slice.result.now in
-    let place : NextWrite = record {
+    let due : NextWrite = record {
       buffer = buffer;
       seq = c.in_ok-seq.seq;
       tariff = c.tariff_at.result;
@@ -42,9 +42,9 @@ returns g c =
     ∙ ap (λ (k : LinkView (Unit {0})). tariff_of k.live.books buffer.flow) c.self.view_is in
     let same = ap (λ (k : LinkView (Unit {0})). k.live.buffers) c.self.view_is in
     let head = ap (λ bs. head_of bs buffer.flow) (sym same) ∙ c.in_ok-seq.ensures in (
-      subst (λ f. IsNextWriteOf (option_map (sending_at l c.args.out) (head_of l.buffers f)) place)
+      subst (λ f. IsNextWriteOf (option_map (sending_at l c.args.out) (head_of l.buffers f)) due)
           c.in_ok-buffer.ensures.0
-          (head_placed l place c.in_ok-seq.body.now.payload head tariff
+          (head_placed l due c.in_ok-seq.body.now.payload head tariff
           (ap (λ bytes. c.header.result + length bytes) c.as_slice.ensures.value
           ∙ ap (λ n. n + length c.in_ok-seq.body.now.payload) version)),
       subst (λ bs. Stands bs buffer) same c.in_ok-buffer.ensures.2,

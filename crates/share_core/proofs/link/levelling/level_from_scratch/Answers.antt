@@ -7,7 +7,8 @@ use Rattle.share_core.proofs.link.levelling.level_from_scratch.Goals as goal
 pub loop-place-init : goal.loop-place-init
 loop-place-init c =
     done-start _ (tickets_of_all c.args.ledger.now) c.args.levelled_with.now
-    (omega (arith, tickets_of_all-count c.args.ledger.now, c.is_kept.ensures.few_flows)) c.told-levelled_with c.requires
+    (omega (arith, tickets_of_all-count c.args.ledger.now, c.is_well_formed.ensures.few_flows)) c.told-levelled_with
+    c.requires
 
 pub level_at-requires-clause-can : goal.level_at-requires-clause-can
 level_at-requires-clause-can c =

@@ -7,21 +7,21 @@ use Rattle.share_core.proofs.payload_buffers.PayloadBuffers.offer_at.Goals as go
 
 pub stamp_at-requires-clause-there : goal.stamp_at-requires-clause-there
 stamp_at-requires-clause-there g c =
-    stands_in c.self.inside.buffers c.args.self.now c.self.view_is c.args.place.now c.requires.there
+    stands_in c.self.inside.buffers c.args.self.now c.self.view_is c.args.handle.now c.requires.there
 
 pub stamp_at-requires-clause-busy : goal.stamp_at-requires-clause-busy
 stamp_at-requires-clause-busy g c =
-    sym (busy_in c.self.inside.buffers c.args.self.now c.self.view_is c.args.place.now.flow)
-    ∙ busy_headed c.args.self.now c.args.place.now.flow c.requires.head
+    sym (busy_in c.self.inside.buffers c.args.self.now c.self.view_is c.args.handle.now.flow)
+    ∙ busy_headed c.args.self.now c.args.handle.now.flow c.requires.head
 
 pub unreachable-requires : goal.unreachable-requires
 unreachable-requires g c =
-    none_stamped c.stamp_at.new.self c.args.self.now c.args.place.now.flow
+    none_stamped c.stamp_at.new.self c.args.self.now c.args.handle.now.flow
     (c.stamp_at.ensures.payloads ∙ c.self.view_is) c.requires.head c.in-None.ensures
 
 pub offer-requires : goal.offer-requires
 offer-requires g c =
-    let flow = c.args.place.now.flow in
+    let flow = c.args.handle.now.flow in
     let framed : IfSome (head_of c.args.self.now flow) (λ h. c.framed_in.result.now ≡ c.args.header.now ++ h.payload) =
     subst (λ (bytes : List ℕ). IfSome (head_of c.args.self.now flow) (λ h. bytes ≡ c.args.header.now ++ h.payload))
     (sym c.framed_in.ensures)
@@ -32,7 +32,7 @@ offer-requires g c =
 
 pub returns-clause-answered : goal.returns-clause-answered
 returns-clause-answered g c =
-    let flow = c.args.place.now.flow in
+    let flow = c.args.handle.now.flow in
     let framed : IfSome (head_of c.args.self.now flow) (λ h. c.framed_in.result.now ≡ c.args.header.now ++ h.payload) =
     subst (λ (bytes : List ℕ). IfSome (head_of c.args.self.now flow) (λ h. bytes ≡ c.args.header.now ++ h.payload))
     (sym c.framed_in.ensures)

@@ -6,5 +6,5 @@ use Rattle.share_flows.proofs.buffers.Buffers.backlog.Goals as goal
 pub returns : goal.returns
 returns c =
     ap Some c.backlog.ensures
-    ∙ ap (option_map backlog_in) (sym (standing_of _ _ c.in_ok-place.place c.index.result.now c.self.view_is
-    c.in_ok-place.ensures.2 c.index.ensures _ c.in_ok-place.ensures.0))
+    ∙ ap (option_map backlog_in) (sym (standing_of _ _ c.in_ok-handle.handle c.index.result.now c.self.view_is
+    c.in_ok-handle.ensures.2 c.index.ensures _ c.in_ok-handle.ensures.0))

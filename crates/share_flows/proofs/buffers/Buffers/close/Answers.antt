@@ -8,19 +8,19 @@ use Rattle.share_flows.proofs.buffers.Buffers.close.Goals as goal
 pub returns-clause-held : goal.returns-clause-held
 returns-clause-held c =
     c.count.ensures.count
-    ∙ ap count_by (sym (standing_of _ _ c.place-place.result c.remove-ring.result c.self.view_is
-    c.place-place.ensures.stands c.remove-ring.ensures.value _ c.place-place.ensures.flow))
+    ∙ ap count_by (sym (standing_of _ _ c.handle-handle.result c.remove-ring.result c.self.view_is
+    c.handle-handle.ensures.stands c.remove-ring.ensures.value _ c.handle-handle.ensures.flow))
 
 pub returns-clause-after : goal.returns-clause-after
 returns-clause-after c =
-    let place = ap (position (is_buffer_of c.args.flow)) c.self.view_is
-    ∙ ap (λ f. position (is_buffer_of f) c.args.self.now) (sym c.place-place.ensures.flow)
-    ∙ c.place-place.ensures.stands in
+    let handle = ap (position (is_buffer_of c.args.flow)) c.self.view_is
+    ∙ ap (λ f. position (is_buffer_of f) c.args.self.now) (sym c.handle-handle.ensures.flow)
+    ∙ c.handle-handle.ensures.stands in
     c.remove-ring.ensures.items
-    ∙ (taken (is_buffer_of c.args.flow) _ c.place-place.result.at place
+    ∙ (taken (is_buffer_of c.args.flow) _ c.handle-handle.result.at handle
     ∙ ap (λ bs. close_in bs c.args.flow) c.self.view_is)
 
 pub invariant_of-self : goal.invariant_of-self
 invariant_of-self c =
     rw (c.remove-ring.ensures.items)
-    (apart-remove c.self.inside.rings.items c.place-place.result.at c.self.invariant)
+    (apart-remove c.self.inside.rings.items c.handle-handle.result.at c.self.invariant)

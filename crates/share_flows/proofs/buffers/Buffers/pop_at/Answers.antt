@@ -6,22 +6,22 @@ use Rattle.share_flows.proofs.buffers.Buffers.pop_at.Goals as goal
 
 pub pop-requires : goal.pop-requires
 pop-requires c =
-    some_packet _ _ c.args.place.now c.index_mut-ring.result.now c.self.view_is c.requires.there
+    some_packet _ _ c.args.handle.now c.index_mut-ring.result.now c.self.view_is c.requires.there
     c.index_mut-ring.ensures.value c.requires.busy
 
 pub returns-clause-head : goal.returns-clause-head
 returns-clause-head c =
-    head_popped _ _ c.args.place.now c.index_mut-ring.result.now c.self.view_is c.requires.there
+    head_popped _ _ c.args.handle.now c.index_mut-ring.result.now c.self.view_is c.requires.there
     c.index_mut-ring.ensures.value _ _ c.pop.ensures.head
 
 pub returns-clause-after : goal.returns-clause-after
 returns-clause-after c =
-    after_pop _ _ c.args.place.now c.index_mut-ring.result.now c.self.view_is c.requires.there
+    after_pop _ _ c.args.handle.now c.index_mut-ring.result.now c.self.view_is c.requires.there
     c.index_mut-ring.ensures.value _ c.pop.ensures.after
 
 pub invariant_of-self : goal.invariant_of-self
 invariant_of-self c =
-    apart-set c.self.inside.rings.items c.args.place.now.at c.pop.new.self c.index_mut-ring.result.now
+    apart-set c.self.inside.rings.items c.args.handle.now.at c.pop.new.self c.index_mut-ring.result.now
     (ap (λ (b : BufferView). b.flow) c.pop.ensures.after ∙ ap (λ (b : BufferView). b.flow)
     c.index_mut-ring.ensures.value)
     c.self.invariant

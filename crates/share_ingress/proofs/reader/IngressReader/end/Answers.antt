@@ -7,8 +7,8 @@ invariant_of-self g c = (
   c.self.invariant.0,
   stands_ended g.R.TellingReader.gives g.R.TellingReader.left c.args.ended (record {
     reader = c.self.inside.reader;
-    held = c.self.inside.held.items;
-    turns = c.self.inside.turns;
+    buffered = c.self.inside.buffered.items;
+    reads_left = c.self.inside.reads_left;
     ended = c.self.inside.ended;
   }) (Some c.args.ended) (rw (← c.self.view_is) at c.requires),
 )

@@ -7,7 +7,7 @@ returns-in-Some-clause-reason g c =
     rw (← c.self.view_is)
     (some_known _ _ (λ e. EndStands g.R.TellingReader.gives (record {
       reader = c.self.inside.reader;
-      held = c.self.inside.held.items;
-      turns = c.self.inside.turns;
+      buffered = c.self.inside.buffered.items;
+      reads_left = c.self.inside.reads_left;
       ended = c.self.inside.ended;
     }) e) c.in-Some.is c.self.invariant.1)

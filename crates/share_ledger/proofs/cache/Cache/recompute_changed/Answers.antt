@@ -2,4 +2,4 @@ use Rattle.share_ledger.proofs.EquationLemmas.{kept-ready}
 use Rattle.share_ledger.proofs.cache.Cache.recompute_changed.Goals as goal
 
 pub returns : goal.returns
-returns c = kept-ready _ _ _ c.is_kept.ensures c.recompute_changed.ensures.long c.recompute_changed.ensures.ready
+returns c = kept-ready _ _ _ c.is_well_formed.ensures c.recompute_changed.ensures.long c.recompute_changed.ensures.ready

@@ -2,7 +2,7 @@ use Rattle.std.proofs.Common.{◌≡◌, ℕ, Bool, true, false, List, set, leng
 use Rattle.std.proofs.Common.{nat_eq, true≢false}
 use Rattle.std.proofs.Math.Bool.{beq}
 use Rattle.std.proofs.lemmas.Bool.{eqb-true}
-use Rattle.share_ledger.specs.Nets.{activity_of, IsReady}
+use Rattle.share_ledger.specs.Valuations.{activity_of, IsReady}
 use Rattle.share_ledger.specs.Arrays.{flags_of}
 use Rattle.share_ledger.specs.FundingTickets.{backs_of, funds_of}
 use Rattle.share_ledger.proofs.BaseFundingLemmas.{relit}
@@ -17,10 +17,10 @@ returns-then-is_funded_by_base c =
     let long : length old.tickets_of_all.value ≡ 64 = let was = c.share.ensures.long.0 in cc in
     let wrote : c.share.new.tickets_of_all
     ≡ set old.tickets_of_all.value c.args.place _ = let own = c.share.ensures.set in cc in
-    kept-ready g c.set_active.new.self c.share.new.tickets_of_all c.is_kept.ensures c.share.ensures.long.1
+    kept-ready g c.set_active.new.self c.share.new.tickets_of_all c.is_well_formed.ensures c.share.ensures.long.1
     (subst (λ (tickets_of_all : List ℕ). IsReady c.set_active.new.self tickets_of_all (backs_of g) (funds_of g)
     (activity_of g)) (sym wrote)
-    (turned-quiet old.net c.set_active.new.self old.tickets_of_all.value _ _ _ c.args.place c.args.active
+    (turned-quiet old.valuation c.set_active.new.self old.tickets_of_all.value _ _ _ c.args.place c.args.active
     c.requires.ready
     c.set_active.ensures.begun c.set_active.ensures.left c.requires.turned _
     (c.set_active.ensures.still (sym c.is_funded_by_base.ensures ∙ c.if-is_funded_by_base.true)) c.requires.place long
@@ -28,7 +28,7 @@ returns-then-is_funded_by_base c =
 
 pub recompute_changed-requires-clause-was : goal.recompute_changed-requires-clause-was
 recompute_changed-requires-clause-was c =
-    turned-was c.args.self.now.net c.set_active-2.new.self _ _ _ _ c.args.place c.args.active c.requires.ready
+    turned-was c.args.self.now.valuation c.set_active-2.new.self _ _ _ _ c.args.place c.args.active c.requires.ready
     c.set_active-2.ensures.begun c.set_active-2.ensures.left c.requires.turned
 
 -- if no activity changes, all is as it was
@@ -52,12 +52,13 @@ returns-then-deref-place c =
     let g = c.args.tables.now in
     let old = c.args.self.now in
     let still =
-    same-flags (activity_of g) (flags_of old.net.active.value) c.args.place c.args.active
+    same-flags (activity_of g) (flags_of old.valuation.active.value) c.args.place c.args.active
     (subst (λ (fs : List Bool). beq (flags_of fs c.args.place) c.args.active ≡ true) c.deref-2.ensures
     c.if-deref-place.true) c.requires.turned in
     let ready =
-    relit old.net old.tickets_of_all.value (backs_of g) (funds_of g) (flags_of old.net.active.value) (activity_of g)
+    relit old.valuation old.tickets_of_all.value (backs_of g) (funds_of g) (flags_of old.valuation.active.value)
+    (activity_of g)
     c.requires.ready still in
-    kept-ready g old.net old.tickets_of_all.value c.is_kept.ensures
+    kept-ready g old.valuation old.tickets_of_all.value c.is_well_formed.ensures
     (sym (ap length c.deref.ensures) ∙ c.have_places.ensures)
     ready

@@ -13,10 +13,10 @@ route_of-backing-requires c =
 pub give-requires-clause-begun : goal.give-requires-clause-begun
 give-requires-clause-begun c =
     let g = c.self.inside.tables in
-    comes-to-fund g c.fund_currency.new.self c.args.ticket (Currency c.args.currency) c.self.inside.cache.net _ _
+    comes-to-fund g c.fund_currency.new.self c.args.ticket (Currency c.args.currency) c.self.inside.cache.valuation _ _
     c.in_ok-fund_currency.ensures.done.1
     (free-currency g c.args.ticket c.args.currency c.in_ok-fund_currency.ensures.done.0)
-    c.self.invariant.net_ready.begun c.route_of-backing.ensures.routed
+    c.self.invariant.valuation_ready.begun c.route_of-backing.ensures.routed
 
 pub give-requires-clause-was : goal.give-requires-clause-was
-give-requires-clause-was c = ready-was _ _ _ _ _ _ _ c.self.invariant.net_ready
+give-requires-clause-was c = ready-was _ _ _ _ _ _ _ c.self.invariant.valuation_ready

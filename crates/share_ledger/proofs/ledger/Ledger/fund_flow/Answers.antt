@@ -16,9 +16,9 @@ pub give-requires-clause-begun : goal.give-requires-clause-begun
 give-requires-clause-begun c =
     let g = c.self.inside.tables in
     comes-to-fund g c.fund_flow.new.self c.args.ticket (Flow (flow_number (flow_named g c.args.flow)))
-    c.self.inside.cache.net _ _ c.in_ok-fund_flow.ensures.done.1
-    (free-flow g c.args.ticket c.args.flow c.in_ok-fund_flow.ensures.done.0) c.self.invariant.net_ready.begun
+    c.self.inside.cache.valuation _ _ c.in_ok-fund_flow.ensures.done.1
+    (free-flow g c.args.ticket c.args.flow c.in_ok-fund_flow.ensures.done.0) c.self.invariant.valuation_ready.begun
     c.route_of-backing.ensures.routed
 
 pub give-requires-clause-was : goal.give-requires-clause-was
-give-requires-clause-was c = ready-was _ _ _ _ _ _ _ c.self.invariant.net_ready
+give-requires-clause-was c = ready-was _ _ _ _ _ _ _ c.self.invariant.valuation_ready

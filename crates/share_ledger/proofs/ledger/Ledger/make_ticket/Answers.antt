@@ -12,14 +12,14 @@ invariant_of-self c =
     let g = c.self.inside.tables in
     let cache = c.self.inside.cache in
     let h = c.make_ticket.new.self in
-    let stays = IsCurrent cache.net cache.tickets_of_all.value in
+    let stays = IsCurrent cache.valuation cache.tickets_of_all.value in
     answered c.make_ticket.result
     (λ n. (make_ticket_refusal g c.args.amount c.args.currency ≡ None) × (n ≡ g.next_ticket) × (h
     ≡ make_ticket g c.args.amount c.args.currency))
     (λ e. IsRefused (make_ticket_refusal g c.args.amount c.args.currency) e × (h ≡ g)) (stays h)
     c.make_ticket.ensures.done c.make_ticket.ensures.refused
     (λ n done. subst stays (sym done.2)
-    (kept-left cache.net cache.tickets_of_all.value g (make_ticket g c.args.amount c.args.currency)
+    (kept-left cache.valuation cache.tickets_of_all.value g (make_ticket g c.args.amount c.args.currency)
     (routes-make_ticket g c.args.amount c.args.currency) refl
     (λ f. sym ((leaves-tickets g).make_ticket c.args.amount c.args.currency f)) c.self.invariant))
     (λ e refused. subst stays (sym refused.1) c.self.invariant)

@@ -1,7 +1,7 @@
 use Rattle.std.proofs.Common.{◌≡◌, IfSome, refl, sym, subst}
 use Rattle.share_model.proofs.lemmas.funding.HolderLemmas.{leaves-tickets}
 use Rattle.share_model.specs.funding.Changes.{remove_currency}
-use Rattle.share_model.specs.funding.Kept.{names_of}
+use Rattle.share_model.specs.funding.WellFormed.{names_of}
 use Rattle.share_ledger.specs.Bounds.{AreBefore}
 use Rattle.share_ledger.specs.Places.{place}
 use Rattle.share_ledger.specs.Cache.{IsCurrent}
@@ -16,11 +16,12 @@ invariant_of-self-then-is_before c =
     let told = c.is_before.ensures c.if-is_before.true in
     let at : c.in-Some.place ≡ place (names_of g) c.args.name =
     subst (λ o. IfSome o (λ p. p ≡ place (names_of g) c.args.name)) c.in-Some.is c.place_made-place.ensures in
-    let begun = c.self.invariant.net_ready.begun in
+    let begun = c.self.invariant.valuation_ready.begun in
     let done = c.in_ok-remove_currency.ensures.done in
-    subst (IsCurrent cache.net cache.tickets_of_all.value) (sym done.1)
-    (kept-left cache.net cache.tickets_of_all.value g (remove_currency g c.args.name)
-    (routes-remove_currency g c.is_kept.ensures c.args.name done.0 cache.net.backing.items cache.net.funding.items
+    subst (IsCurrent cache.valuation cache.tickets_of_all.value) (sym done.1)
+    (kept-left cache.valuation cache.tickets_of_all.value g (remove_currency g c.args.name)
+    (routes-remove_currency g c.is_well_formed.ensures c.args.name done.0 cache.valuation.backing.items
+    cache.valuation.funding.items
     begun.backing begun.funding
-    (subst (AreBefore cache.net.backing.items cache.net.funding.items) at told))
+    (subst (AreBefore cache.valuation.backing.items cache.valuation.funding.items) at told))
     refl (λ f. sym ((leaves-tickets g).remove_currency c.args.name f)) c.self.invariant)

@@ -9,8 +9,8 @@ route_of-backing-requires c =
 
 pub take-requires-clause-begun : goal.take-requires-clause-begun
 take-requires-clause-begun c =
-    ceases-to-fund c.self.inside.tables c.unfund.new.self c.args.ticket c.self.inside.cache.net _ _
-    c.unfund.ensures c.self.invariant.net_ready.begun c.route_of-backing.ensures.routed
+    ceases-to-fund c.self.inside.tables c.unfund.new.self c.args.ticket c.self.inside.cache.valuation _ _
+    c.unfund.ensures c.self.invariant.valuation_ready.begun c.route_of-backing.ensures.routed
 
 pub take-requires-clause-was : goal.take-requires-clause-was
-take-requires-clause-was c = ready-was _ _ _ _ _ _ _ c.self.invariant.net_ready
+take-requires-clause-was c = ready-was _ _ _ _ _ _ _ c.self.invariant.valuation_ready

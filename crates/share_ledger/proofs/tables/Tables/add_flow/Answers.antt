@@ -3,8 +3,8 @@ use Rattle.indexmap.proofs.CallerLemmas.{insert_entry-new}
 use Rattle.share_model.specs.declared.funding.OpenFlow.{OpenFlow}
 use Rattle.share_model.specs.funding.Graph.{Graph}
 use Rattle.share_model.specs.funding.Changes.{add_flow_refusal, add_flow}
-use Rattle.share_model.specs.funding.Kept.{IsKept}
-use Rattle.share_model.proofs.lemmas.funding.FlowLemmas.{kept-add_flow}
+use Rattle.share_model.specs.funding.WellFormed.{IsWellFormed}
+use Rattle.share_model.proofs.lemmas.funding.FlowLemmas.{well_formed-add_flow}
 use Rattle.share_ledger.proofs.TableLemmas.{lay, fresh-flow}
 use Rattle.share_ledger.proofs.tables.Tables.add_flow.Goals as goal
 
@@ -21,9 +21,9 @@ invariant_of-self-2 c =
     c.in_ok-insert.ensures.entries
     ∙ insert_entry-new bytes_eq c.self.inside.flows c.args.name open_flow
     (fresh-flow tables c.args.name none) in
-    subst (λ es. IsKept (record tables { flows = es; next_flow = c.self.inside.next_flow + 1 }))
+    subst (λ es. IsWellFormed (record tables { flows = es; next_flow = c.self.inside.next_flow + 1 }))
     (sym entries)
-    (kept-add_flow _ c.self.invariant c.args.name none)
+    (well_formed-add_flow _ c.self.invariant c.args.name none)
 
 pub returns-clause-done : goal.returns-clause-done
 returns-clause-done c =

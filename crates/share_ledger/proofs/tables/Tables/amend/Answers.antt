@@ -2,8 +2,8 @@ use Rattle.std.proofs.Common.{◌≡◌, None, List, sym, ap, subst, ◌∙◌}
 use Rattle.share_model.specs.declared.funding.Ticket.{Ticket}
 use Rattle.share_model.specs.funding.Graph.{Graph}
 use Rattle.share_model.specs.funding.Changes.{is_numbered, with_amount, amend_refusal, amend}
-use Rattle.share_model.specs.funding.Kept.{IsKept}
-use Rattle.share_model.proofs.lemmas.funding.TicketLemmas.{kept-amend}
+use Rattle.share_model.specs.funding.WellFormed.{IsWellFormed}
+use Rattle.share_model.proofs.lemmas.funding.TicketLemmas.{well_formed-amend}
 use Rattle.share_ledger.proofs.TableLemmas.{lay}
 use Rattle.share_ledger.proofs.FirstItemLemmas.{position-none, found-ticket, changed-first, changed-none}
 use Rattle.share_ledger.proofs.tables.Tables.amend.Goals as goal
@@ -21,8 +21,8 @@ invariant_of-self c =
     c.index_mut.ensures.value in
     let none =
     subst (λ (g : Graph). amend_refusal g c.args.number c.args.amount ≡ None) (sym c.self.view_is) c.requires in
-    subst (λ ts. IsKept (record tables { tickets = ts })) (sym written)
-    (kept-amend _ c.self.invariant c.args.number c.args.amount none)
+    subst (λ ts. IsWellFormed (record tables { tickets = ts })) (sym written)
+    (well_formed-amend _ c.self.invariant c.args.number c.args.amount none)
 
 pub returns-in-Some : goal.returns-in-Some
 returns-in-Some c =

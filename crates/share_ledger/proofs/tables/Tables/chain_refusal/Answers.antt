@@ -37,7 +37,7 @@ has_ranks-requires-clause-made c =
 pub returns-then-has_ranks : goal.returns-then-has_ranks
 returns-then-has_ranks c = λ found.
     let none =
-    below-stands _ c.is_kept.ensures _ c.requires.ticketed.ticketed _ c.requires.ticketed.ranked c.args.number
+    below-stands _ c.is_well_formed.ensures _ c.requires.ticketed.ticketed _ c.requires.ticketed.ranked c.args.number
     c.args.currency
     _ c.requires.made (stands c.args.self.now c.args.currency c.requires.known)
     (sym c.ticket.ensures ∙ ap option_copied c.in-Some.is) _ _ c.place_of-from.ensures.value
@@ -47,14 +47,14 @@ returns-then-has_ranks c = λ found.
 pub returns-then-backs : goal.returns-then-backs
 returns-then-backs c = λ found.
     let cycle =
-    cycle-backs _ c.is_kept.ensures _ c.requires.ticketed.ticketed _ c.requires.ticketed.ranked c.args.number
+    cycle-backs _ c.is_well_formed.ensures _ c.requires.ticketed.ticketed _ c.requires.ticketed.ranked c.args.number
     c.args.currency
     _ c.requires.made (stands c.args.self.now c.args.currency c.requires.known)
     (sym c.ticket.ensures ∙ ap option_copied c.in-Some.is) _ _ c.place_of-from.ensures.value
     c.place_of-to.ensures.value c.backs.ensures.0 c.backs.ensures.1.0 in
     let deep = c.has_ranks.ensures.deep c.if-has_ranks.false in
     refusal true true (cycle ∙ sym c.backs.ensures.1.1 ∙ c.if-backs.true)
-    (tall-funded _ c.is_kept.ensures _ c.requires.ticketed.ticketed _ c.requires.ticketed.ranked c.args.number
+    (tall-funded _ c.is_well_formed.ensures _ c.requires.ticketed.ticketed _ c.requires.ticketed.ranked c.args.number
     c.args.currency
     _ c.requires.made (stands c.args.self.now c.args.currency c.requires.known)
     (sym c.ticket.ensures ∙ ap option_copied c.in-Some.is) _ _ c.place_of-from.ensures.value
@@ -63,14 +63,14 @@ returns-then-backs c = λ found.
 pub returns : goal.returns
 returns c = λ found.
     let cycle =
-    cycle-backs _ c.is_kept.ensures _ c.requires.ticketed.ticketed _ c.requires.ticketed.ranked c.args.number
+    cycle-backs _ c.is_well_formed.ensures _ c.requires.ticketed.ticketed _ c.requires.ticketed.ranked c.args.number
     c.args.currency
     _ c.requires.made (stands c.args.self.now c.args.currency c.requires.known)
     (sym c.ticket.ensures ∙ ap option_copied c.in-Some.is) _ _ c.place_of-from.ensures.value
     c.place_of-to.ensures.value c.backs.ensures.0 c.backs.ensures.1.0 in
     let deep = c.has_ranks.ensures.deep c.if-has_ranks.false in
     refusal false true (cycle ∙ sym c.backs.ensures.1.1 ∙ c.if-backs.false)
-    (tall-funded _ c.is_kept.ensures _ c.requires.ticketed.ticketed _ c.requires.ticketed.ranked c.args.number
+    (tall-funded _ c.is_well_formed.ensures _ c.requires.ticketed.ticketed _ c.requires.ticketed.ranked c.args.number
     c.args.currency
     _ c.requires.made (stands c.args.self.now c.args.currency c.requires.known)
     (sym c.ticket.ensures ∙ ap option_copied c.in-Some.is) _ _ c.place_of-from.ensures.value

@@ -14,6 +14,6 @@ returns c =
     let ticketed = c.requires.ticketed.ticketed in
     ap length c.funding_tickets_at.ensures.value
     ∙ ap (λ (ss : List (List FundingTicket)). length (funding_tickets_at ss c.place_of.result)) c.deref.ensures.value
-    ∙ ap (λ q. length (funding_tickets_at c.args.net.now.backing.items q)) c.place_of.ensures.value
-    ∙ backing-count g c.is_kept.ensures c.args.net.now.backing.items ticketed c.args.name
+    ∙ ap (λ q. length (funding_tickets_at c.args.valuation.now.backing.items q)) c.place_of.ensures.value
+    ∙ backing-count g c.is_well_formed.ensures c.args.valuation.now.backing.items ticketed c.args.name
     (stands g c.args.name c.requires.known)

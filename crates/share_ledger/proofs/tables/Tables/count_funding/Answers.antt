@@ -21,7 +21,7 @@ funding_tickets_at-requires-clause-place c =
     (position-first _ _ c.in-Some.place (sym c.place_of_flow.ensures ∙ c.in-Some.is)) in
     let under = flow-place-below c.args.flow g.flows (first-open c.args.flow g.flows c.in-Some.place first) in
     let at = flow-place-first c.args.flow g.flows c.in-Some.place first in
-    omega (arith, c.is_kept.ensures.few_flows)
+    omega (arith, c.is_well_formed.ensures.few_flows)
 
 pub returns : goal.returns
 returns c = grind (arith, nat_tests, funding-count, flow-first, position-first)

@@ -1,7 +1,7 @@
 use Rattle.std.proofs.Common.{◌≡◌, ◌≤◌, Some, is_some, sym, ap, subst, ◌∙◌}
 use Rattle.share_model.proofs.lemmas.funding.RefusalLemmas.{found-open}
 use Rattle.share_model.specs.funding.Changes.{flow_named, flow_number}
-use Rattle.share_model.specs.funding.Kept.{times_open}
+use Rattle.share_model.specs.funding.WellFormed.{times_open}
 use Rattle.share_ledger.proofs.tables.Tables.fund_flow_refusal.Goals as goal
 
 pub count_funding-requires-clause-open : goal.count_funding-requires-clause-open

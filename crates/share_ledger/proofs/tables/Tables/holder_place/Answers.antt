@@ -1,5 +1,5 @@
 use Rattle.std.proofs.Common.{sym, ap, subst, ◌∙◌, arith}
-use Rattle.share_model.specs.funding.Kept.{IsHolderKnown}
+use Rattle.share_model.specs.funding.WellFormed.{IsHolderKnown}
 use Rattle.share_ledger.specs.Routes.{holder_place}
 use Rattle.share_ledger.proofs.FirstItemLemmas.{position-first, position-none, flow-first, flow-none}
 use Rattle.share_ledger.proofs.RouteListLemmas.{flow-place-first, unopened}

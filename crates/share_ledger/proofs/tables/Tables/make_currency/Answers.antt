@@ -1,7 +1,7 @@
 use Rattle.std.proofs.Common.{◌≡◌, None, sym, subst, ◌∙◌}
 use Rattle.share_model.specs.funding.Changes.{make_currency_refusal}
-use Rattle.share_model.specs.funding.Kept.{IsKept}
-use Rattle.share_model.proofs.lemmas.funding.CurrencyLemmas.{kept-make_currency}
+use Rattle.share_model.specs.funding.WellFormed.{IsWellFormed}
+use Rattle.share_model.proofs.lemmas.funding.CurrencyLemmas.{well_formed-make_currency}
 use Rattle.share_ledger.proofs.TableLemmas.{lay, fresh-currency}
 use Rattle.share_ledger.proofs.FirstItemLemmas.{insert-new}
 use Rattle.share_ledger.proofs.tables.Tables.make_currency.Goals as goal
@@ -18,5 +18,5 @@ invariant_of-self-2 c =
     c.in_ok-insert.ensures.keys
     ∙ insert-new c.args.name c.self.inside.currencies.keys
     (fresh-currency tables c.args.name none) in
-    subst (λ ks. IsKept (record tables { currencies = ks })) (sym keys)
-    (kept-make_currency _ c.self.invariant c.args.name none)
+    subst (λ ks. IsWellFormed (record tables { currencies = ks })) (sym keys)
+    (well_formed-make_currency _ c.self.invariant c.args.name none)

@@ -2,8 +2,8 @@ use Rattle.std.proofs.Common.{◌≡◌, List, [], sym, subst}
 use Rattle.share_model.specs.declared.funding.Ticket.{Ticket}
 use Rattle.share_model.specs.declared.funding.OpenFlow.{OpenFlow}
 use Rattle.share_model.specs.funding.Graph.{NameBytes, Graph}
-use Rattle.share_model.specs.funding.Kept.{IsKept}
-use Rattle.share_model.proofs.lemmas.funding.CurrencyLemmas.{kept-empty}
+use Rattle.share_model.specs.funding.WellFormed.{IsWellFormed}
+use Rattle.share_model.proofs.lemmas.funding.CurrencyLemmas.{well_formed-empty}
 use Rattle.share_ledger.proofs.tables.Tables.new.Goals as goal
 
 lay : List NameBytes → List Ticket → List (NameBytes × OpenFlow) → Graph
@@ -11,11 +11,12 @@ lay cs ts es = record { currencies = cs; tickets = ts; next_ticket = 1; flows = 
 
 -- three empty lists
 kept-lay : (cs : List NameBytes) (ts : List Ticket) (es : List (NameBytes × OpenFlow)) → cs ≡ [] → ts ≡ [] → es ≡ []
-    → IsKept (lay cs ts es)
+    → IsWellFormed (lay cs ts es)
 unfolding lay
 kept-lay cs ts es p q r =
-    subst (λ cs. IsKept (lay cs ts es)) (sym p)
-    (subst (λ ts. IsKept (lay [] ts es)) (sym q) (subst (λ es. IsKept (lay [] [] es)) (sym r) kept-empty))
+    subst (λ cs. IsWellFormed (lay cs ts es)) (sym p)
+    (subst (λ ts. IsWellFormed (lay [] ts es)) (sym q)
+    (subst (λ es. IsWellFormed (lay [] [] es)) (sym r) well_formed-empty))
 
 pub invariant_of-result : goal.invariant_of-result
 unfolding lay

@@ -1,7 +1,7 @@
 use Rattle.std.proofs.Common.{map, sym, ap, subst, ◌∙◌}
 use Rattle.share_model.specs.funding.Changes.{is_open_as, release_from, remove_flow}
-use Rattle.share_model.specs.funding.Kept.{IsKept}
-use Rattle.share_model.proofs.lemmas.funding.FlowLemmas.{kept-remove_flow}
+use Rattle.share_model.specs.funding.WellFormed.{IsWellFormed}
+use Rattle.share_model.proofs.lemmas.funding.FlowLemmas.{well_formed-remove_flow}
 use Rattle.share_ledger.proofs.TableLemmas.{lay, written-whole}
 use Rattle.share_ledger.proofs.FirstItemLemmas.{found-flow, no-flow, remove-first}
 use Rattle.share_ledger.proofs.FirstItemLemmas.{remove-none}
@@ -21,13 +21,13 @@ invariant_of-self c =
     written-whole
     (release_from c.args.flow) c.self.inside.tickets.items c.release.new.tickets c.deref_mut.result.now
     c.self.inside.tickets.len c.release.ensures c.deref_mut.ensures.value c.self.inside.tickets.ok.0 in
-    subst (λ ts. IsKept (record tables { tickets = ts; flows = c.shift_remove_index.new.self.entries }))
+    subst (λ ts. IsWellFormed (record tables { tickets = ts; flows = c.shift_remove_index.new.self.entries }))
     (sym tickets)
     (subst
-    (λ es. IsKept
+    (λ es. IsWellFormed
     (record tables { tickets = map (release_from c.args.flow) c.self.inside.tickets.items; flows = es }))
     (sym left)
-    (kept-remove_flow _ c.self.invariant c.args.flow))
+    (well_formed-remove_flow _ c.self.invariant c.args.flow))
 
 pub invariant_of-self-in_default : goal.invariant_of-self-in_default
 invariant_of-self-in_default c =
@@ -40,12 +40,12 @@ invariant_of-self-in_default c =
     written-whole
     (release_from c.args.flow) c.self.inside.tickets.items c.release.new.tickets c.deref_mut.result.now
     c.self.inside.tickets.len c.release.ensures c.deref_mut.ensures.value c.self.inside.tickets.ok.0 in
-    subst (λ ts. IsKept (record tables { tickets = ts })) (sym tickets)
+    subst (λ ts. IsWellFormed (record tables { tickets = ts })) (sym tickets)
     (subst
-    (λ es. IsKept
+    (λ es. IsWellFormed
     (record tables { tickets = map (release_from c.args.flow) c.self.inside.tickets.items; flows = es }))
     (sym left)
-    (kept-remove_flow _ c.self.invariant c.args.flow))
+    (well_formed-remove_flow _ c.self.invariant c.args.flow))
 
 pub returns-in-Some : goal.returns-in-Some
 returns-in-Some c =

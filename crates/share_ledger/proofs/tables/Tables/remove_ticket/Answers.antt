@@ -1,7 +1,7 @@
 use Rattle.std.proofs.Common.{sym, ap, subst, ◌∙◌}
 use Rattle.share_model.specs.funding.Changes.{is_numbered, remove_ticket}
-use Rattle.share_model.specs.funding.Kept.{IsKept}
-use Rattle.share_model.proofs.lemmas.funding.TicketLemmas.{kept-remove_ticket}
+use Rattle.share_model.specs.funding.WellFormed.{IsWellFormed}
+use Rattle.share_model.proofs.lemmas.funding.TicketLemmas.{well_formed-remove_ticket}
 use Rattle.share_ledger.proofs.TableLemmas.{lay}
 use Rattle.share_ledger.proofs.FirstItemLemmas.{position-none, found-ticket, remove-first, remove-none}
 use Rattle.share_ledger.proofs.tables.Tables.remove_ticket.Goals as goal
@@ -17,8 +17,8 @@ invariant_of-self c =
     let left =
     c.remove.ensures.items
     ∙ remove-first (is_numbered c.args.number) c.self.inside.tickets.items c.in-Some-place_of_ticket.place first in
-    subst (λ ts. IsKept (record tables { tickets = ts })) (sym left)
-    (kept-remove_ticket _ c.self.invariant c.args.number)
+    subst (λ ts. IsWellFormed (record tables { tickets = ts })) (sym left)
+    (well_formed-remove_ticket _ c.self.invariant c.args.number)
 
 pub returns-in-Some-place_of_ticket-clause-done : goal.returns-in-Some-place_of_ticket-clause-done
 returns-in-Some-place_of_ticket-clause-done c =

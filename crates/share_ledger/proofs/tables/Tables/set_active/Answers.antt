@@ -4,8 +4,8 @@ use Rattle.std.specs.Bool.{then_some}
 use Rattle.std.proofs.lemmas.Option.{get_or_from_slice_get}
 use Rattle.share_model.specs.declared.funding.OpenFlow.{OpenFlow}
 use Rattle.share_model.specs.funding.Changes.{is_open_as, active_as, set_active}
-use Rattle.share_model.specs.funding.Kept.{IsKept}
-use Rattle.share_model.proofs.lemmas.funding.FlowLemmas.{kept-set_active}
+use Rattle.share_model.specs.funding.WellFormed.{IsWellFormed}
+use Rattle.share_model.proofs.lemmas.funding.FlowLemmas.{well_formed-set_active}
 use Rattle.share_ledger.proofs.FlowTicketLemmas.{stands-so, activity-left}
 use Rattle.share_ledger.proofs.TableLemmas.{lay}
 use Rattle.share_ledger.proofs.FirstItemLemmas.{position-none, flow-none, found-flow, activity-first}
@@ -23,8 +23,8 @@ invariant_of-self c =
     (sym c.in-Some-get_index_mut.ensures.value)) in
     let written =
     activity-first c.args.flow c.args.active c.self.inside.flows.entries c.in-Some.place open_flow first source in
-    subst (λ es. IsKept (record tables { flows = es })) (sym written)
-    (kept-set_active _ c.self.invariant c.args.flow c.args.active)
+    subst (λ es. IsWellFormed (record tables { flows = es })) (sym written)
+    (well_formed-set_active _ c.self.invariant c.args.flow c.args.active)
 
 pub returns-in-Some-get_index_mut-clause-change : goal.returns-in-Some-get_index_mut-clause-change
 returns-in-Some-get_index_mut-clause-change c =

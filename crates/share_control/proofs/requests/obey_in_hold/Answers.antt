@@ -1,9 +1,0 @@
-use Rattle.share_control.proofs.requests.obey_in_hold.Goals as goal
-
-pub returns : goal.returns
-returns g c = record {
-  room = c.args.clerk.now.room;
-  held = c.deref_mut.result.now;
-  left = c.obey.new.locked;
-  obeyed = c.obey.ensures;
-}

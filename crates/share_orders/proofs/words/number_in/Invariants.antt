@@ -1,5 +1,0 @@
-use Rattle.share_orders.proofs.NumberLemmas.{ReadUpTo}
-use Rattle.share_orders.proofs.words.number_in.Given as goal
-
-abbrev pub invariant-loop-digit : goal.invariant-loop-digit
-invariant-loop-digit l = ReadUpTo l.word l.digit-index l.value

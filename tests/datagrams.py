@@ -368,11 +368,11 @@ def flood_datagrams(address, payload, stop):
 
 def shares(run):
     """A tenant that floods a datagram port and one that floods a connection get the shares of their tickets in every
-    window of five seconds."""
+    window of five seconds. Their buffers last for more than a second if a busy machine stops the floods."""
     far = run.keep(measured.FarEnd())
     tickets = {"a": 300, "b": 100}
     tenants = {"a": Tenant([tickets["a"]]), "b": Tenant([tickets["b"]], ports=[free_address()])}
-    gateway = started(run, far.address, tenants, uplink_lines=['rate = "4 Mbit/s"'])
+    gateway = started(run, far.address, tenants, uplink_lines=['rate = "1 Mbit/s"'])
     stop = []
     flooding = run.thread(flood_datagrams, tenants["b"].ports[0], packet(0, 700), stop)
     flood = run.keep(Flood(tenants["a"].ports[0], ["a:700"]))

@@ -1256,23 +1256,13 @@ def uplink_of(server, peer):
     raise Failure("the server has no connection to its peer")
 
 
-def states(server):
-    """The states of a server's threads, as S for asleep and T for stopped."""
-    found = set()
-    folder = "/proc/%d/task" % server.process.pid
-    for thread in os.listdir(folder):
-        with open("%s/%s/stat" % (folder, thread)) as stat:
-            found.add(stat.read().rsplit(")", 1)[1].split()[0])
-    return found
-
-
 def stay(server, state):
     """Waits until all threads of a server are in a state, and stay in it for a while."""
     seen = 0
 
     def is_steady():
         nonlocal seen
-        seen = seen + 1 if states(server) == {state} else 0
+        seen = seen + 1 if server.states() == {state} else 0
         return seen == 3
 
     wait_for(is_steady, "a server in state %s" % state)

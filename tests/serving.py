@@ -341,23 +341,22 @@ class Server:
             expect(last in ["stridelink: " + one for one in faults], "the last line: %s, not %s" % (last, fault))
             expect_equal(told.count("stridelink: "), 1, "how many faults are told")
 
-    def processor_seconds(self):
-        """The processor time that its threads have used."""
-        used = 0
-        folder = "/proc/%d/task" % self.process.pid
+    def of_threads(self, name):
+        """What a file of /proc has of each of its threads. One that ends meanwhile is left out."""
+        found, folder = [], "/proc/%d/task" % self.process.pid
         for thread in os.listdir(folder):
-            with open("%s/%s/schedstat" % (folder, thread)) as source:
-                used += int(source.read().split()[0])
-        return used / 1e9
+            with contextlib.suppress(FileNotFoundError, ProcessLookupError):
+                with open("%s/%s/%s" % (folder, thread, name), encoding="ascii", errors="replace") as source:
+                    found.append(source.read())
+        return found
 
-    def is_asleep(self):
-        """Whether each of its threads sleeps."""
-        folder = "/proc/%d/task" % self.process.pid
-        for thread in os.listdir(folder):
-            with open("%s/%s/stat" % (folder, thread), encoding="ascii", errors="replace") as source:
-                if source.read().rpartition(")")[2].split()[0] != "S":
-                    return False
-        return True
+    def processor_seconds(self):
+        """The processor time that its threads have used, without those that have ended."""
+        return sum(int(text.split()[0]) for text in self.of_threads("schedstat")) / 1e9
+
+    def states(self):
+        """The states of its threads, as S for asleep and T for stopped."""
+        return {text.rpartition(")")[2].split()[0] for text in self.of_threads("stat")}
 
     def unread(self):
         """How many bytes of its ingress connections it has not read."""
@@ -404,10 +403,12 @@ def tcp_connections():
 def is_blocked(server, senders, most=QUIET_SHARE):
     """Whether the server has used at most this share of a core for a while, with all clients at work, and its threads
     sleep: on a machine that has other work they may wait for a processor instead."""
-    used = server.processor_seconds()
+    before = server.processor_seconds()
     time.sleep(0.3)
-    is_quiet = server.processor_seconds() - used < 0.3 * most
-    return is_quiet and server.is_asleep() and all(sender.is_alive() for sender in senders)
+    used = server.processor_seconds() - before
+    # The time is less if a thread has ended.
+    is_quiet = 0 <= used < 0.3 * most
+    return is_quiet and server.states() == {"S"} and all(sender.is_alive() for sender in senders)
 
 
 def address_space(process):

@@ -24,7 +24,7 @@ import time
 
 sys.dont_write_bytecode = True
 
-from measured import Load, check_changes, check_currency, check_load, flooded
+from measured import Load, check_changes, check_currency, check_load, check_load_alone, flooded
 from serving import (ENDED, END, LATE_UPLINK, LOOPBACK, LOST_UPLINK, NO_DESCRIPTOR, ONE_PACKET, PATIENCE,
                      QUIET_SECONDS, Failure, address_space, check, ends_by_itself, expect, expect_equal, frame, frames,
                      is_blocked, listeners, lower, lowest_free, one_packet, packets, packets_until_torn, record,
@@ -359,9 +359,9 @@ def shares_of_tariffs(run):
                          lengths=("64,1400", "700,9000", "300", "1490,8")))
 
 
-def shares_beside_busy_loops(run):
+def shares_beside_busy_loops(_):
     """The same as fast as the far end takes it, beside three busy loops."""
-    check_load(run, Load("loopback, two connections", connections=("ac", "bd"), busy=3))
+    check_load_alone(Load("loopback, two connections", connections=("ac", "bd"), busy=3))
 
 
 def shares_as_tickets_change(run):

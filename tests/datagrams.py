@@ -15,7 +15,7 @@ sys.dont_write_bytecode = True
 
 import measured
 from gatewaying import GATEWAY, HEADER, LOOPBACK, NUMBER, SERVED, FarEnd, Play, Tenant, address_of, free_port, packet
-from measured import START, WINDOW, Flood, check_windows
+from measured import START, WINDOW, Flood, check_windows, judged_alone
 from serving import PATIENCE, Failure, expect, expect_equal, try_cases, wait_for
 
 # Seconds for a case, and for all of them.
@@ -366,6 +366,7 @@ def flood_datagrams(address, payload, stop):
             time.sleep(0)
 
 
+@judged_alone
 def shares(run):
     """A tenant that floods a datagram port and one that floods a connection get the shares of their tickets in every
     window of five seconds. Their buffers last for more than a second if a busy machine stops the floods."""

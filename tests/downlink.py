@@ -16,6 +16,7 @@ import time
 sys.dont_write_bytecode = True
 
 from gatewaying import FILLING, NUMBER, Play, Tenant, address_of, connect, frame_bytes, free_port, packet, records
+from measured import judged_alone
 from serving import (LOOPBACK, PATIENCE, SERVED, Failure, ends_by_itself, expect, expect_equal, frame,
                      frames, try_cases, wait_for)
 
@@ -262,11 +263,13 @@ def shares(run, kind):
                f"{kind}: the share of {name} is {share:.4f}; lost {lost}")
 
 
+@judged_alone
 def shares_over_tcp(run):
     """Shares over TCP."""
     shares(run, "tcp")
 
 
+@judged_alone
 def shares_over_udp(run):
     """Shares over UDP."""
     shares(run, "udp")

@@ -28,7 +28,7 @@ import paced
 from gatewaying import (COLUMNS, GATEWAY, HEADER, MOST_CONNECTIONS, MOST_CONTROLS, OUTBOX, SERVED, TARIFFS, WORDS,
                         Play, Tenant, address_of, connect, frame_bytes, free_port, packet, records, run_gateway,
                         run_program)
-from measured import WINDOW, Flood, check_windows
+from measured import WINDOW, Flood, check_windows, judged_alone
 from serving import (LOOPBACK, PATIENCE, Failure, ends_by_itself, expect, expect_equal, record, reset, try_cases,
                      wait_for)
 
@@ -708,6 +708,7 @@ def floods(run, gateway, lengths="700", names=None):
 # ---- Shares and rates
 
 
+@judged_alone
 def shares(run):
     """While four tenants flood, the bytes of their frames are in the ratio of their tickets in every window of five
     seconds."""
@@ -721,6 +722,7 @@ def shares(run):
     print(f"shares: {rate:.0f} frames/s, worst error {worst:.4f}")
 
 
+@judged_alone
 def rate(run):
     """A rate is followed: bytes of frames in every window of five seconds are within 2 percent of it, and are never
     more. At most 20 ms of it are saved up while nothing is sent. The shares are the tickets' meanwhile. A plain program
@@ -733,6 +735,7 @@ def rate(run):
     check_windows(list(far.samples), wanted, "a rate")
 
 
+@judged_alone
 def one_against_eight(run):
     """Eight connections of a tenant get no more than one would, and are served in turn."""
     far = run.far_end()

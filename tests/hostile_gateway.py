@@ -15,7 +15,7 @@ import time
 import measured
 from gateway import floods
 from gatewaying import GATEWAY, MOST_CONNECTIONS, Play, Tenant, connect, free_port, packet, records
-from measured import START, WINDOW, check_windows
+from measured import START, WINDOW, check_windows, judged_alone
 from serving import LOOPBACK, PATIENCE, expect, record, reset, try_cases, wait_for
 
 LIMIT, LIMIT_OF_ALL = 120, 600
@@ -169,6 +169,7 @@ def seconds_of(new_control):
 
 def case_of(*kinds):
     """A case of some kinds, called as the only one or `all_at_once`."""
+    @judged_alone
     def case(run):
         shares_beside(run, *kinds)
 

@@ -6,6 +6,7 @@ from START seconds after the first byte on; none waits until buffers are full. W
 waits for a slow far end is read there for seconds. So the flows are held until each has a packet: all of them are
 offered from the first byte on.
 """
+import functools
 import json
 import os
 import resource
@@ -15,7 +16,7 @@ import threading
 import time
 from dataclasses import dataclass, field
 
-from serving import PATIENCE, TOP, Failure, Run, expect, wait_for
+from serving import PATIENCE, TOP, Failure, expect, wait_for
 
 TESTS = os.path.join(TOP, "tests")
 
@@ -25,7 +26,7 @@ WINDOW = 5.0
 # By how much a share in a window may differ from that of the tickets.
 MOST_ERROR = 0.01
 
-# How often a load is measured at most, and how many processors other programs and the host may take meanwhile.
+# How often shares are measured at most, and how many processors other programs and the host may take meanwhile.
 TIMES = 3
 MOST_TAKEN = 0.1
 
@@ -259,18 +260,21 @@ def seconds_of_others():
     return (user + nice + system + stolen) / os.sysconf("SC_CLK_TCK") - used
 
 
-def check_load_alone(load):
-    """Measures a load that leaves no time for others. If its shares are off and others took processors, the floods may
-    have stood still: it is measured again, at most TIMES times in all."""
-    for left in reversed(range(TIMES)):
-        start, before = time.monotonic(), seconds_of_others()
-        try:
-            with Run() as run:
-                return check_load(run, load)
-        except Failure:
-            taken = (seconds_of_others() - before) / (time.monotonic() - start)
-            if not left or taken <= MOST_TAKEN:
-                raise
+def judged_alone(check):
+    """A case that measures shares. If it fails and others took processors, its own programs may have stood still: it is
+    played again, at most TIMES times in all, each time with the tools of a run of its own."""
+    @functools.wraps(check)
+    def case(run):
+        for left in reversed(range(TIMES)):
+            start, before = time.monotonic(), seconds_of_others()
+            try:
+                with type(run)() as own:
+                    return check(own)
+            except Failure:
+                taken = (seconds_of_others() - before) / (time.monotonic() - start)
+                if not left or taken <= MOST_TAKEN:
+                    raise
+    return case
 
 
 # Tickets that change while all flows are flooded.

@@ -24,7 +24,7 @@ import time
 
 sys.dont_write_bytecode = True
 
-from measured import Load, check_changes, check_currency, check_load, check_load_alone, flooded
+from measured import Load, check_changes, check_currency, check_load, flooded, judged_alone
 from serving import (ENDED, END, LATE_UPLINK, LOOPBACK, LOST_UPLINK, NO_DESCRIPTOR, ONE_PACKET, PATIENCE,
                      QUIET_SECONDS, Failure, address_space, check, ends_by_itself, expect, expect_equal, frame, frames,
                      is_blocked, listeners, lower, lowest_free, one_packet, packets, packets_until_torn, record,
@@ -342,6 +342,7 @@ def lone_packets(run):
     check(server, peer, [("whole", some)])
 
 
+@judged_alone
 def shares_at_slow_far_ends(run):
     """Four floods of 400:300:200:100 tickets get their shares at far ends that read slowly, with small buffers, one
     connection that carries all flows in turn, and two connections a flow."""
@@ -353,17 +354,20 @@ def shares_at_slow_far_ends(run):
         task.finish(LIMIT)
 
 
+@judged_alone
 def shares_of_tariffs(run):
     """The same if each flow has another tariff, other lengths, and a great buffer."""
     check_load(run, Load("25 MB/s, four tariffs", 2.5e7, limit=1024, tariffs=(1, 2, 3, 4),
                          lengths=("64,1400", "700,9000", "300", "1490,8")))
 
 
-def shares_beside_busy_loops(_):
+@judged_alone
+def shares_beside_busy_loops(run):
     """The same as fast as the far end takes it, beside three busy loops."""
-    check_load_alone(Load("loopback, two connections", connections=("ac", "bd"), busy=3))
+    check_load(run, Load("loopback, two connections", connections=("ac", "bd"), busy=3))
 
 
+@judged_alone
 def shares_as_tickets_change(run):
     """A currency's flow goes and comes; and on another server a flow is held and resumed, and a ticket is amended."""
     for task in [run.thread(check, run) for check in (check_currency, check_changes)]:

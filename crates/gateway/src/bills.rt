@@ -14,6 +14,7 @@ use share_verified_bill::{VerifiedBilling, print_bill_by, print_verified_bill};
 use std::alloc::{AllocError, Global};
 use std::fs::{File, Files};
 use std::io::{Eprint, Print};
+use std::mem;
 use std::process::ExitCode;
 
 // The status of a bill that was printed, or was not.
@@ -80,7 +81,9 @@ fn bill_under<R: Files<File = File> + Print + Eprint>(
     settings: Settings,
     billing: &Billing<'_, '_>,
 ) -> ExitCode {
-    let rates = settings.tariffs;
+    let mut settings = settings;
+    let rates = mem::replace(&mut settings.tariffs, Vec::new(alloc));
+    drop(settings);
     status_of(rt, print_bill_by(rt, alloc, rates, billing))
 }
 

@@ -10,10 +10,10 @@ use smallvec::SmallVec;
 use std::alloc::Global;
 use std::marker::Model;
 
-/// The longest payload that is held in the value itself, in bytes.
+/// The longest payload that is in the value itself, in bytes.
 pub const MAX_IN_PLACE: usize = 16;
 
-/// The number of bytes that the value itself holds.
+/// The number of bytes in the value itself.
 const IN_PLACE: usize = HEADER_ROOM + MAX_IN_PLACE;
 
 /// The length of the longest frame in bytes.
@@ -22,13 +22,13 @@ const LONGEST_FRAME: usize = HEADER_ROOM + MAX_PAYLOAD;
 // The bytes of payloads of zeros.
 static ZEROS: [u8; MAX_PAYLOAD] = [0; MAX_PAYLOAD];
 
-/// The payload of a packet: 1 to 9000 bytes, with room for a header before them. Up to 16 are held in the value itself,
-/// more in memory of their own. The count of zeros alone may be kept. A contract sees the bytes last stamped before the
+/// The payload of a packet: 1 to 9000 bytes, with room for a header before them. Up to 16 are in the value itself, more
+/// in memory of their own. The count of zeros alone may be kept. A contract sees the bytes last stamped before the
 /// payload, and the payload.
 pub struct Body {
     // The room and the payload after it; the room alone if the payload is zeros.
     bytes: SmallVec<u8, IN_PLACE>,
-    // The number of zeros in the payload, and 0 if its bytes are held.
+    // The number of zeros in the payload, and 0 if its bytes are there.
     zeros: u16,
     // The number of stamped bytes of the room, those next to the payload.
     stamped: u8,
@@ -151,11 +151,11 @@ impl Body {
     pub fn framed_in<'a>(&'a self, frame: &'a mut ZeroFrame) -> &'a [u8]
         ensures { result.now ≡ framed_bytes self.now }
     {
-        let held = &self.bytes.as_slice()[HEADER_ROOM - self.stamped as usize..];
+        let front = &self.bytes.as_slice()[HEADER_ROOM - self.stamped as usize..];
         if self.zeros > 0 {
-            frame.show(held, self.zeros as usize)
+            frame.show(front, self.zeros as usize)
         } else {
-            held
+            front
         }
     }
 }
@@ -214,8 +214,7 @@ impl ZeroFrame {
     }
 }
 
-/// A payload held twice, so that it can be sent and recorded with no further memory. A contract sees it as
-/// its bytes.
+/// A payload with a copy, so that it can be sent and recorded with no further memory. A contract sees it as its bytes.
 pub struct Parcel {
     sending: Body,
     audit: Body,

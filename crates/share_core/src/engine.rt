@@ -314,7 +314,7 @@ impl<W, S: Rates> Engine<W, S> {
     }
 
     /// The caller declares that the writer failed, and the writer is not called: `Torn`, one event, if there is a
-    /// frame to send. Else nothing changes: `Spent`, `Broken` or `Idle`, in this order. It takes no memory.
+    /// frame to send. Otherwise nothing changes: `Spent`, `Broken` or `Idle`, in this order. It takes no memory.
     pub fn tear(&mut self) -> Turn
         ensures { TearCall self.old result self.new }
     {

@@ -151,7 +151,7 @@ impl PayloadBuffers {
     /// Closes the buffer of a flow, and returns the number of packets that it held.
     pub(crate) fn close(&mut self, flow: FlowNo) -> u32
         requires { IsSome (buffer_of self.old flow) }
-        ensures held { result ≡ count_in self.old flow }
+        ensures count { result ≡ count_in self.old flow }
         ensures after { self.new ≡ close_in self.old flow }
     {
         self.buffers.close(flow)

@@ -52,7 +52,7 @@ pub data TakesOnly : NameBytes → Audited → Audited → Type 0 where
 
 -- ---- Records
 
--- n bytes of the stream came after those that were held
+-- n bytes of the stream came after those that were buffered
 pub record Feeds (old : RecordsView) (n : ℕ) (new : RecordsView) : Type 0 where
   pub came : List ℕ
   pub count : length came ≡ n
@@ -65,13 +65,13 @@ pub record HoldsMore (old new : RecordsView) : Type 0 where
   pub bytes : new.bytes ≡ old.bytes ++ came
   pub name : new.name ≡ old.name
 
--- bytes came, and no whole record is held, nor bytes that are not a record
+-- bytes came, and no whole record is buffered, nor bytes that are not a record
 pub record HoldsPart (old new : RecordsView) : Type 0 where
   pub holds : HoldsMore old new
   pub part : NeedsMore new.bytes
   pub own : NamesOnly new.name new.bytes
 
--- bytes came, and of all that are held the first record was given, whose payload has n bytes and went into the book
+-- bytes came, and of all that are buffered the first record was given, whose payload has n bytes and went into the book
 pub record GivesRecord (name : NameBytes) (n : ℕ) (old : RecordsView) (before : Audited) (new : RecordsView)
     (after : Audited) : Type 0 where
   pub came : List ℕ
@@ -80,7 +80,7 @@ pub record GivesRecord (name : NameBytes) (n : ℕ) (old : RecordsView) (before 
   pub answer : Taken
   pub packet : TakesPacket before name new.payload answer after
 
--- bytes came, and of all that are held the first record was cut, whose payload has n bytes
+-- bytes came, and of all that are buffered the first record was cut, whose payload has n bytes
 pub record CutsFirst (n : ℕ) (old new : RecordsView) : Type 0 where
   pub came : List ℕ
   pub record_is : old.bytes ++ came ≡ record_of (item_for old.name new.payload) ++ new.bytes
@@ -95,7 +95,7 @@ GivesPayload name payload before Nothing after = ⊥
 GivesPayload name payload before More after = ⊥
 GivesPayload name payload before (Over why) after = why ≡ NoMemory
 
--- the first field of what is held that is whole and not in range is there, or a name of another
+-- the first field of what is buffered that is whole and not in range is there, or a name of another
 abbrev pub IsNoRecord : RecordsView → Type 0
 IsNoRecord r = IsBad r.bytes ⊎ NamesOther r.name r.bytes
 
@@ -109,7 +109,7 @@ IsEndOf Malformed r = ⊥
 IsEndOf NoMemory r = ⊥
 IsEndOf Asked r = ⊥
 
--- why nothing more comes: what is held begins with no record, or the stream ended or failed before one was whole
+-- why nothing more comes: what is buffered begins with no record, or the stream ended or failed before one was whole
 abbrev pub EndsWith : ClosedWhy → RecordsView → RecordsView → Type 0
 EndsWith Malformed old new = HoldsMore old new × IsNoRecord new
 EndsWith Ended old new = HoldsPart old new × IsEndOf Ended new

@@ -13,13 +13,24 @@ const RETRY_SECONDS: u64 = 1;
 const PASSED_OVER: u32 = 64;
 
 /// A listener, and the time at which its connections are accepted.
-#[derive(Drop)]
 pub struct Acceptor {
     listener: Listener,
     // Whether connections may wait.
     is_ready: bool,
     // When the listener is tried again, if its connections could not be accepted.
     retry: Option<Instant>,
+}
+
+// This is written out so that no crate above proves how each part is dropped.
+impl Drop for Acceptor {
+    fn drop(self) {
+        let Acceptor {
+            listener,
+            is_ready: _,
+            retry: _,
+        } = self;
+        drop(listener);
+    }
 }
 
 impl Acceptor {

@@ -22,7 +22,6 @@ const ACCEPTS: u32 = 64;
 const FLOWS: usize = 1024;
 
 /// The ports, and a door for each tenant.
-#[derive(Drop)]
 pub struct Doorways {
     pub(crate) ports: Slab<Port>,
     pub(crate) doors: Slab<Door>,
@@ -30,6 +29,21 @@ pub struct Doorways {
     by_flow: Vec<Option<usize>>,
     // When the first listener is tried again whose connections could not be accepted.
     retry: Option<Instant>,
+}
+
+// This is written out so that no crate above proves how each part is dropped.
+impl Drop for Doorways {
+    fn drop(self) {
+        let Doorways {
+            ports,
+            doors,
+            by_flow,
+            retry: _,
+        } = self;
+        drop(ports);
+        drop(doors);
+        drop(by_flow);
+    }
 }
 
 impl Doorways {

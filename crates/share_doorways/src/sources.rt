@@ -31,9 +31,16 @@ pub enum Source {
 }
 
 /// The sources of events. A token is the key of its source.
-#[derive(Drop)]
 pub struct Sources {
     all: Slab<Source>,
+}
+
+// This is written out so that no crate above proves how each part is dropped.
+impl Drop for Sources {
+    fn drop(self) {
+        let Sources { all } = self;
+        drop(all);
+    }
 }
 
 impl Sources {

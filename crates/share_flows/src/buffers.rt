@@ -266,7 +266,7 @@ impl Buffers {
     /// Closes the buffer of a flow, drops its packets and returns their number. It takes no memory.
     pub fn close(&mut self, flow: FlowNo) -> u32
         requires { IsSome (buffer_of self.old flow) }
-        ensures held { result ≡ count_in self.old flow }
+        ensures count { result ≡ count_in self.old flow }
         ensures after { self.new ≡ close_in self.old flow }
     {
         let handle = self.handle(flow);

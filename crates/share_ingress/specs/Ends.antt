@@ -21,8 +21,8 @@ pub record EndView : Type 0 where
   pub refused : ℕ
 
 -- the name of the queue, the most offers that it holds, and the number of its workers. Then come what was popped, and
--- what it held just after the last pop. Last come the workers whose ends were joined to the intake, and the number of
--- pops that found nothing
+-- what was queued just after the last pop. Last come the workers whose ends were joined to the intake, and the number
+-- of pops that found nothing
 pub record IntakeView : Type 0 where
   pub link : LinkName
   pub capacity : ℕ
@@ -94,8 +94,8 @@ with_refusal e = record e { refused = one_higher e.refused }
 abbrev pub with_miss : IntakeView → IntakeView
 with_miss i = record i { missed = one_higher i.missed }
 
--- an offer came back. The queue was full at some moment, when it held of this worker what this end pushed last, and
--- that is counted. Or the end has pushed 2^40 offers, and the queue was not asked
+-- an offer came back. The queue was full at some moment, when its offers of this worker were what this end pushed last,
+-- and that is counted. Or the end has pushed 2^40 offers, and the queue was not asked
 abbrev pub CameBack : EndView → EndView → Type 0
 CameBack old new =
     ((length old.pushed ≡ 2 ^ 40) × (new ≡ old))

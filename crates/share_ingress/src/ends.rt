@@ -74,7 +74,7 @@ impl Model for IngressEnd {
 }
 
 /// The link's side of the queue, the only one that pops. A contract sees the name of the queue, the most offers that it
-/// holds, and the number of its workers. It sees what was popped, what the queue held just after the last pop, and the
+/// holds, and the number of its workers. It sees what was popped, what was queued just after the last pop, and the
 /// workers whose ends were joined to the intake. It sees the number of pops that found the queue empty, counted up to
 /// 2^64 - 1.
 #[derive(Drop)]

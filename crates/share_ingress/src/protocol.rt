@@ -57,7 +57,7 @@ impl Split<QueueView> for Ends {
     ghost right = { λ v. an_end (suc v.made) [] };
 }
 
-/// An end is held beside the intake, and taken away again.
+/// An end is beside the intake for a moment, and is taken away again.
 pub(crate) struct Beside;
 
 impl Join<QueueView> for Beside {

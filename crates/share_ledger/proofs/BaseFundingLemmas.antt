@@ -1,4 +1,4 @@
--- A flow that wakes or rests if its funding tickets come from `base` alone: nothing else changes.
+-- A flow that becomes active or idle if its funding tickets come from `base` alone: nothing else changes.
 use Rattle.std.proofs.Common.{◌≡◌, ◌<◌, ◌*◌, ◌/◌, ℕ, zero, suc, Bool, true, false, cond, List, [], ◌∷◌, map}
 use Rattle.std.proofs.Common.{nat_eq, get_or, refl, sym, ap, ◌∙◌, arith}
 use Rattle.std.specs.List.{list_all}

@@ -330,7 +330,7 @@ quiet-computed n tickets_of_all next backs funds lit c f begun was same asleep w
         (worth_at-quiet n.funding.items (flags_of n.active.value) (numbers_of n.values.value) (numbers_of n.seen.value)
         (numbers_of n.weights.value) p (begun.funding.within p (omega arith)) same)
 
--- a flow that wakes or rests leaves the funding tickets and the values
+-- a flow that becomes active or idle leaves the funding tickets and the values
 module _ (old new : Valuation) (tickets_of_all : List ℕ) (backs funds : List Route)
     (lit : ℕ → Bool) (place : ℕ) (b : Bool)
     (ready : IsReady old tickets_of_all backs funds (flags_of old.active.value)) (begun : HasInputs new backs funds lit)

@@ -1,4 +1,4 @@
--- The effect on the weights of one holder that wakes or rests.
+-- The effect on the weights of one holder that becomes active or idle.
 use Rattle.std.proofs.Common.{◌≡◌, ◌≤◌, ◌<◌, ◌+◌, ◌*◌, ◌^◌, ℕ, ◌/◌, zero, suc, Bool, true, false, cond, ◌&&◌, List}
 use Rattle.std.proofs.Common.{[], ◌∷◌}
 use Rattle.std.proofs.Common.{nat_eq, set, get_or, sum_by, length, refl, sym, ap, subst, ◌∙◌, arith}

@@ -1,4 +1,5 @@
-//! Changes of the valuation: a flow wakes or rests, a funding ticket comes or goes, or all is computed from scratch.
+//! Changes of the valuation: a flow becomes active or idle, a funding ticket comes or goes, or all is computed from
+//! scratch.
 ghost use Rattle.share_ledger.specs.declared.funding_tickets.FundingTicket.{FundingTicket};
 ghost use Rattle.std.specs.Prelude.{◌≡◌, ℕ, sum_by, ◌+◌, ◌<◌, ◌++◌, ◌∷◌, [], length, true, false, not, nat_eq, IfOk};
 ghost use Rattle.std.specs.Prelude.{◌^◌, min, slice_set, if◌then◌else◌};

@@ -47,7 +47,7 @@ pub(crate) fn add_all(funding_tickets: &[FundingTicket], weights: &mut [u32; PLA
 /// Takes the amounts of funding tickets from the weights of the places that they come from.
 pub(crate) fn subtract_all(funding_tickets: &[FundingTicket], weights: &mut [u32; PLACES])
     requires within { Each IsFundingTicketWithin funding_tickets.now }
-    requires held { (p : ℕ) → p < 65 → amount_from funding_tickets.now p ≤ numbers_of weights.old p }
+    requires covered { (p : ℕ) → p < 65 → amount_from funding_tickets.now p ≤ numbers_of weights.old p }
     ensures { (p : ℕ) → p < 65
         → numbers_of weights.new p + amount_from funding_tickets.now p ≡ numbers_of weights.old p }
 {
@@ -70,7 +70,7 @@ pub(crate) fn add_one(weights: &mut [u32; PLACES], place: usize, amount: u32)
 /// Takes from the weight of a place.
 pub(crate) fn subtract_one(weights: &mut [u32; PLACES], place: usize, amount: u32)
     requires place { place < 65 }
-    requires held { amount ≤ numbers_of weights.old place }
+    requires covered { amount ≤ numbers_of weights.old place }
     ensures { (p : ℕ) → p < 65
         → numbers_of weights.new p + (if nat_eq p place then amount else 0) ≡ numbers_of weights.old p }
 {

@@ -17,10 +17,21 @@ const MAX_CONTROLS: usize = 16;
 const ACCEPTS: u32 = 64;
 
 /// The listener of control connections, and those that are open.
-#[derive(Drop)]
 pub struct Controls {
     listener: Acceptor,
     connections: Slab<ControlConnection>,
+}
+
+// This is written out so that no crate above proves how each part is dropped.
+impl Drop for Controls {
+    fn drop(self) {
+        let Controls {
+            listener,
+            connections,
+        } = self;
+        drop(listener);
+        drop(connections);
+    }
 }
 
 impl Controls {

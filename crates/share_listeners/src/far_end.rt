@@ -21,12 +21,23 @@ const ACCEPTS: u32 = 64;
 const CLOSES: u32 = 128;
 
 /// The downlink, on which the frames of another gateway come in.
-#[derive(Drop)]
 pub struct FarEnd {
     address: SocketAddr,
     // The address from which alone frames are taken, if they are limited.
     from: Option<IpAddr>,
     way: Way,
+}
+
+// This is written out so that no crate above proves how each part is dropped.
+impl Drop for FarEnd {
+    fn drop(self) {
+        let FarEnd {
+            address: _,
+            from: _,
+            way,
+        } = self;
+        drop(way);
+    }
 }
 
 /// The way that frames come.

@@ -16,12 +16,25 @@ use std::time::{Clock, Duration, Instant};
 const MAX_CLIENTS: usize = 32;
 
 /// The web listener, and its connections.
-#[derive(Drop)]
 pub struct Web {
     listener: Acceptor,
     // The address, as the Host of a request has it.
     address: String,
     clients: Slab<WebClient>,
+}
+
+// This is written out so that no crate above proves how each part is dropped.
+impl Drop for Web {
+    fn drop(self) {
+        let Web {
+            listener,
+            address,
+            clients,
+        } = self;
+        drop(listener);
+        drop(address);
+        drop(clients);
+    }
 }
 
 impl Web {

@@ -62,7 +62,7 @@ pub record Fails (before last : State) : Type 0 where
   pub next : IsNextFrame before.live before.live.part frame
   pub bytes : out last ≡ out before
 
--- The sentence
+-- The promise
 
 -- the version of a link's frames, its life and its tariffs. Then come the events that it made, in their order, and the
 -- replies to them. Last come what the link holds after them, and what its writer reports, if it reports anything

@@ -20,9 +20,16 @@ pub struct ControlHold {
 }
 
 /// The tenants of a plan, and which of them control lines hold. A contract sees them in the plan's order.
-#[derive(Drop)]
 pub struct ControlHolds {
     tenants: Vec<ControlHold>,
+}
+
+// This is written out so that no crate above proves how each part is dropped.
+impl Drop for ControlHolds {
+    fn drop(self) {
+        let ControlHolds { tenants } = self;
+        drop(tenants);
+    }
 }
 
 impl Model for ControlHolds {

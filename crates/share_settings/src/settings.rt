@@ -6,7 +6,6 @@ use share_model::Rate;
 use std::marker::Model;
 
 /// The settings of a gateway. The ports are those of the plan's tenants, in their order.
-#[derive(Drop)]
 pub struct Settings {
     pub uplink: Option<Uplink>,
     pub books: Books,
@@ -16,6 +15,27 @@ pub struct Settings {
     pub tariffs: Vec<Rate>,
     pub plan: Plan,
     pub ports: Vec<TenantPorts>,
+}
+
+// This is written out so that no crate above proves how each part is dropped.
+impl Drop for Settings {
+    fn drop(self) {
+        let Settings {
+            uplink: _,
+            books,
+            control,
+            downlink: _,
+            web: _,
+            tariffs,
+            plan,
+            ports,
+        } = self;
+        drop(books);
+        drop(control);
+        drop(tariffs);
+        drop(plan);
+        drop(ports);
+    }
 }
 
 impl Model for Settings {

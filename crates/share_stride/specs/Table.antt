@@ -83,17 +83,17 @@ coded_clients =
 abbrev pub no_clients : Clients
 no_clients = record { by_flow = map.empty; keys = map.empty }
 
--- the key of the place is that of its flow
+-- its key is that of its flow
 abbrev pub IsClientKeyIn : Clients → ClientKey → Type 0
-IsClientKeyIn clients place = get clients.keys place.flow ≡ Some place.key
+IsClientKeyIn clients client_key = get clients.keys client_key.flow ≡ Some client_key.key
 
--- the client at a place, or one that never competed
+-- the client of a key, or one that never competed
 abbrev pub client_at : Clients → ClientKey → Client
-client_at clients place = client_of clients.by_flow place.flow
+client_at clients client_key = client_of clients.by_flow client_key.flow
 
--- the clients with this one at a place
+-- the clients with this one at a key
 abbrev pub with_client_at : Clients → ClientKey → Client → Clients
-with_client_at clients place client = record clients { by_flow = insert clients.by_flow place.flow client }
+with_client_at clients client_key client = record clients { by_flow = insert clients.by_flow client_key.flow client }
 
 -- the slot under this key has this flow
 pub record HoldsFlow (slots : Slots) (flow key : ℕ) : Type 0 where

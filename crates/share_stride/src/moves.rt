@@ -1,4 +1,4 @@
-//! The moves of the client at a place. Each changes the client and what all clients share.
+//! The moves of the client of a key. Each changes the client and what all clients share.
 ghost use Rattle.std.specs.Prelude.{◌≡◌, ◌+◌, ◌^◌, ◌<◌, ◌≤◌, false, IsTrue, IsSome};
 ghost use Rattle.std.specs.FinMap as map;
 ghost use Rattle.share_model.specs.stride.Moves.{join as model_join, leave as model_leave, modify as model_modify};
@@ -31,21 +31,21 @@ pub(crate) fn join(
     clients: &mut Table,
     global: &mut GlobalPart,
     cached: &mut CachedStride,
-    place: ClientKey,
+    client_key: ClientKey,
     tickets: u32,
 )
-    requires place { IsClientKeyIn clients.old place }
-    requires there { IsSome (map.get clients.old.by_flow place.flow) }
+    requires client_key { IsClientKeyIn clients.old client_key }
+    requires there { IsSome (map.get clients.old.by_flow client_key.flow) }
     requires kept { AreInStep clients.old global.old }
-    requires idle { (client_at clients.old place).competes ≡ false }
+    requires idle { (client_at clients.old client_key).competes ≡ false }
     requires some { 0 < tickets }
     requires few { tickets ≤ 2 ^ 20 }
     ensures kept { AreInStep clients.new global.new }
     ensures joined { state_of clients.new global.new
-        ≡ model_join (state_of clients.old global.old) place.flow tickets }
+        ≡ model_join (state_of clients.old global.old) client_key.flow tickets }
 {
     update(global, cached);
-    clients.enter(place, global.pass, tickets);
+    clients.enter(client_key, global.pass, tickets);
     global.tickets += u64::from(tickets);
 }
 
@@ -54,18 +54,18 @@ pub(crate) fn leave(
     clients: &mut Table,
     global: &mut GlobalPart,
     cached: &mut CachedStride,
-    place: ClientKey,
+    client_key: ClientKey,
 )
-    requires place { IsClientKeyIn clients.old place }
-    requires there { IsSome (map.get clients.old.by_flow place.flow) }
+    requires client_key { IsClientKeyIn clients.old client_key }
+    requires there { IsSome (map.get clients.old.by_flow client_key.flow) }
     requires kept { AreInStep clients.old global.old }
-    requires competes { IsTrue (client_at clients.old place).competes }
+    requires competes { IsTrue (client_at clients.old client_key).competes }
     ensures kept { AreInStep clients.new global.new }
     ensures left { state_of clients.new global.new
-        ≡ model_leave (state_of clients.old global.old) place.flow }
+        ≡ model_leave (state_of clients.old global.old) client_key.flow }
 {
     update(global, cached);
-    global.tickets -= u64::from(clients.leave(place, global.pass));
+    global.tickets -= u64::from(clients.leave(client_key, global.pass));
 }
 
 /// Changes the tickets of a client that competes.
@@ -73,34 +73,39 @@ pub(crate) fn modify(
     clients: &mut Table,
     global: &mut GlobalPart,
     cached: &mut CachedStride,
-    place: ClientKey,
+    client_key: ClientKey,
     tickets: u32,
 )
-    requires place { IsClientKeyIn clients.old place }
-    requires there { IsSome (map.get clients.old.by_flow place.flow) }
+    requires client_key { IsClientKeyIn clients.old client_key }
+    requires there { IsSome (map.get clients.old.by_flow client_key.flow) }
     requires kept { AreInStep clients.old global.old }
-    requires competes { IsTrue (client_at clients.old place).competes }
+    requires competes { IsTrue (client_at clients.old client_key).competes }
     requires some { 0 < tickets }
     requires few { tickets ≤ 2 ^ 20 }
     ensures kept { AreInStep clients.new global.new }
     ensures modified { state_of clients.new global.new
-        ≡ model_modify (state_of clients.old global.old) place.flow tickets }
+        ≡ model_modify (state_of clients.old global.old) client_key.flow tickets }
 {
     update(global, cached);
-    let before = clients.modify(place, global.pass, tickets);
+    let before = clients.modify(client_key, global.pass, tickets);
     global.tickets = global.tickets - u64::from(before) + u64::from(tickets);
 }
 
 /// Charges a client these units, and moves the clock on by them.
-pub(crate) fn charge(clients: &mut Table, global: &mut GlobalPart, place: ClientKey, units: u64)
-    requires place { IsClientKeyIn clients.old place }
-    requires there { IsSome (map.get clients.old.by_flow place.flow) }
+pub(crate) fn charge(
+    clients: &mut Table,
+    global: &mut GlobalPart,
+    client_key: ClientKey,
+    units: u64,
+)
+    requires client_key { IsClientKeyIn clients.old client_key }
+    requires there { IsSome (map.get clients.old.by_flow client_key.flow) }
     requires kept { AreInStep clients.old global.old }
     requires clock { global.old.clock + units ≤ 2 ^ 40 }
     ensures kept { AreInStep clients.new global.new }
     ensures charged { state_of clients.new global.new
-        ≡ model_charge (state_of clients.old global.old) place.flow units }
+        ≡ model_charge (state_of clients.old global.old) client_key.flow units }
 {
-    clients.charge(place, units);
+    clients.charge(client_key, units);
     global.clock += units;
 }

@@ -103,11 +103,11 @@ impl Queue {
     {
         match self.clients.find(flow) {
             None => unreachable!(),
-            Some(place) => moves::join(
+            Some(client_key) => moves::join(
                 &mut self.clients,
                 &mut self.global,
                 &mut self.cached,
-                place,
+                client_key,
                 tickets,
             ),
         }
@@ -122,11 +122,11 @@ impl Queue {
     {
         match self.clients.find(flow) {
             None => unreachable!(),
-            Some(place) => moves::leave(
+            Some(client_key) => moves::leave(
                 &mut self.clients,
                 &mut self.global,
                 &mut self.cached,
-                place,
+                client_key,
             ),
         }
     }
@@ -141,11 +141,11 @@ impl Queue {
     {
         match self.clients.find(flow) {
             None => unreachable!(),
-            Some(place) => moves::modify(
+            Some(client_key) => moves::modify(
                 &mut self.clients,
                 &mut self.global,
                 &mut self.cached,
-                place,
+                client_key,
                 tickets,
             ),
         }
@@ -160,24 +160,29 @@ impl Queue {
     {
         match self.clients.find(flow) {
             None => unreachable!(),
-            Some(place) => {
-                let client = self.clients.at(&place);
+            Some(client_key) => {
+                let client = self.clients.at(&client_key);
                 if !client.competes && tickets > 0 {
                     moves::join(
                         &mut self.clients,
                         &mut self.global,
                         &mut self.cached,
-                        place,
+                        client_key,
                         tickets,
                     );
                 } else if client.competes && tickets == 0 {
-                    moves::leave(&mut self.clients, &mut self.global, &mut self.cached, place);
+                    moves::leave(
+                        &mut self.clients,
+                        &mut self.global,
+                        &mut self.cached,
+                        client_key,
+                    );
                 } else if client.competes && client.tickets != tickets {
                     moves::modify(
                         &mut self.clients,
                         &mut self.global,
                         &mut self.cached,
-                        place,
+                        client_key,
                         tickets,
                     );
                 }
@@ -194,7 +199,12 @@ impl Queue {
     {
         match self.clients.find(flow) {
             None => unreachable!(),
-            Some(place) => moves::charge(&mut self.clients, &mut self.global, place, units),
+            Some(client_key) => moves::charge(
+                &mut self.clients,
+                &mut self.global,
+                client_key,
+                units,
+            ),
         }
     }
 
@@ -234,7 +244,7 @@ impl Queue {
     {
         match self.clients.find(flow) {
             None => unreachable!(),
-            Some(place) => client::position(&self.clients.at(&place)),
+            Some(client_key) => client::position(&self.clients.at(&client_key)),
         }
     }
 

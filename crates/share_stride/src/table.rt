@@ -27,7 +27,7 @@ pub(crate) struct ClientSlot {
     client: Client,
 }
 
-/// The place of a flow's client in the table.
+/// The key of a flow's client in the table.
 #[derive(Clone, Copy, Debug)]
 pub(crate) struct ClientKey {
     flow: FlowNo,
@@ -72,9 +72,9 @@ impl Table {
         self.slots.len()
     }
 
-    /// The place of a flow's client, if it has one.
+    /// The key of a flow's client, if it has one.
     pub(crate) fn find(&self, flow: FlowNo) -> Option<ClientKey>
-        ensures flow { IfSome result (λ place. place.flow ≡ flow) }
+        ensures flow { IfSome result (λ client_key. client_key.flow ≡ flow) }
         ensures found { IfSome result (IsClientKeyIn self.now) }
         ensures there { IsSome result ↔ IsSome (map.get self.now.by_flow flow) }
     {
@@ -84,105 +84,105 @@ impl Table {
         }
     }
 
-    /// The client at a place.
-    pub(crate) fn at(&self, place: &ClientKey) -> Client
-        requires { IsClientKeyIn self.now place.now }
-        ensures { Some result ≡ map.get self.now.by_flow place.now.flow }
+    /// The client of a key.
+    pub(crate) fn at(&self, client_key: &ClientKey) -> Client
+        requires { IsClientKeyIn self.now client_key.now }
+        ensures { Some result ≡ map.get self.now.by_flow client_key.now.flow }
     {
-        match self.slots.get(place.key) {
+        match self.slots.get(client_key.key) {
             None => unreachable!(),
             Some(slot) => slot.client,
         }
     }
 
-    /// Makes the client at a place, which does not compete, join with these tickets.
-    pub(crate) fn enter(&mut self, place: ClientKey, global_pass: u128, tickets: u32)
-        requires place { IsClientKeyIn self.old place }
-        requires idle { (client_at self.old place).competes ≡ false }
+    /// Makes the client of a key, which does not compete, join with these tickets.
+    pub(crate) fn enter(&mut self, client_key: ClientKey, global_pass: u128, tickets: u32)
+        requires client_key { IsClientKeyIn self.old client_key }
+        requires idle { (client_at self.old client_key).competes ≡ false }
         requires some { 0 < tickets }
         requires pass { global_pass ≤ 2 ^ 80 }
-        requires stride { (client_at self.old place).stride
-            ≡ stride_of (client_at self.old place).tickets }
-        requires remain { IsWithin (client_at self.old place).remain
-            ((client_at self.old place).stride * 2 ^ 41) }
+        requires stride { (client_at self.old client_key).stride
+            ≡ stride_of (client_at self.old client_key).tickets }
+        requires remain { IsWithin (client_at self.old client_key).remain
+            ((client_at self.old client_key).stride * 2 ^ 41) }
         ensures { self.new
-            ≡ with_client_at self.old place (after_join global_pass (client_at self.old place) tickets) }
+            ≡ with_client_at self.old client_key (after_join global_pass (client_at self.old client_key) tickets) }
     {
-        match self.slots.get_mut(place.key) {
+        match self.slots.get_mut(client_key.key) {
             None => unreachable!(),
             Some(slot) => {
                 slot.client = client::after_join(global_pass, &slot.client, tickets);
                 self.heap.enter(HeapEntry {
                     pass: slot.client.pass,
                     flow: slot.flow,
-                    key: place.key,
+                    key: client_key.key,
                 });
             }
         }
     }
 
-    /// Makes the client at a place, which competes, leave, and gives its tickets.
-    pub(crate) fn leave(&mut self, place: ClientKey, global_pass: u128) -> u32
-        requires place { IsClientKeyIn self.old place }
-        requires competes { IsTrue (client_at self.old place).competes }
+    /// Makes the client of a key, which competes, leave, and gives its tickets.
+    pub(crate) fn leave(&mut self, client_key: ClientKey, global_pass: u128) -> u32
+        requires client_key { IsClientKeyIn self.old client_key }
+        requires competes { IsTrue (client_at self.old client_key).competes }
         requires pass { global_pass ≤ 2 ^ 80 }
-        requires distance { IsWithin ((client_at self.old place).pass -ℤ pos global_pass) (2 ^ 81) }
-        ensures tickets { result ≡ (client_at self.old place).tickets }
+        requires distance { IsWithin ((client_at self.old client_key).pass -ℤ pos global_pass) (2 ^ 81) }
+        ensures tickets { result ≡ (client_at self.old client_key).tickets }
         ensures left { self.new
-            ≡ with_client_at self.old place (after_leave global_pass (client_at self.old place)) }
+            ≡ with_client_at self.old client_key (after_leave global_pass (client_at self.old client_key)) }
     {
-        match self.slots.get_mut(place.key) {
+        match self.slots.get_mut(client_key.key) {
             None => unreachable!(),
             Some(slot) => {
                 slot.client = client::after_leave(global_pass, &slot.client);
                 let tickets = slot.client.tickets;
-                self.heap.leave(place.key);
+                self.heap.leave(client_key.key);
                 tickets
             }
         }
     }
 
-    /// Changes the tickets of the client at a place, which competes: it leaves, and joins with these. Gives those that
+    /// Changes the tickets of the client of a key, which competes: it leaves, and joins with these. Gives those that
     /// it had.
-    pub(crate) fn modify(&mut self, place: ClientKey, global_pass: u128, tickets: u32) -> u32
-        requires place { IsClientKeyIn self.old place }
-        requires competes { IsTrue (client_at self.old place).competes }
+    pub(crate) fn modify(&mut self, client_key: ClientKey, global_pass: u128, tickets: u32) -> u32
+        requires client_key { IsClientKeyIn self.old client_key }
+        requires competes { IsTrue (client_at self.old client_key).competes }
         requires some { 0 < tickets }
         requires pass { global_pass ≤ 2 ^ 80 }
-        requires stride { (client_at self.old place).stride
-            ≡ stride_of (client_at self.old place).tickets }
-        requires distance { IsWithin ((client_at self.old place).pass -ℤ pos global_pass)
-            ((client_at self.old place).stride * 2 ^ 41) }
-        ensures tickets { result ≡ (client_at self.old place).tickets }
-        ensures modified { self.new ≡ with_client_at self.old place
-            (after_join global_pass (after_leave global_pass (client_at self.old place)) tickets) }
+        requires stride { (client_at self.old client_key).stride
+            ≡ stride_of (client_at self.old client_key).tickets }
+        requires distance { IsWithin ((client_at self.old client_key).pass -ℤ pos global_pass)
+            ((client_at self.old client_key).stride * 2 ^ 41) }
+        ensures tickets { result ≡ (client_at self.old client_key).tickets }
+        ensures modified { self.new ≡ with_client_at self.old client_key
+            (after_join global_pass (after_leave global_pass (client_at self.old client_key)) tickets) }
     {
-        match self.slots.get_mut(place.key) {
+        match self.slots.get_mut(client_key.key) {
             None => unreachable!(),
             Some(slot) => {
                 let before = slot.client.tickets;
                 let client = client::after_leave(global_pass, &slot.client);
                 slot.client = client::after_join(global_pass, &client, tickets);
-                shift(&mut self.heap, slot, place.key);
+                shift(&mut self.heap, slot, client_key.key);
                 before
             }
         }
     }
 
-    /// Charges the client at a place these units.
-    pub(crate) fn charge(&mut self, place: ClientKey, units: u64)
-        requires place { IsClientKeyIn self.old place }
+    /// Charges the client of a key these units.
+    pub(crate) fn charge(&mut self, client_key: ClientKey, units: u64)
+        requires client_key { IsClientKeyIn self.old client_key }
         requires units { units ≤ 2 ^ 40 }
-        requires stride { (client_at self.old place).stride ≤ 2 ^ 40 }
-        requires fits { IsWithin (position (client_at self.old place)).place (2 ^ 83) }
+        requires stride { (client_at self.old client_key).stride ≤ 2 ^ 40 }
+        requires fits { IsWithin (position (client_at self.old client_key)).place (2 ^ 83) }
         ensures { self.new
-            ≡ with_client_at self.old place (after_charge (client_at self.old place) units) }
+            ≡ with_client_at self.old client_key (after_charge (client_at self.old client_key) units) }
     {
-        match self.slots.get_mut(place.key) {
+        match self.slots.get_mut(client_key.key) {
             None => unreachable!(),
             Some(slot) => {
                 slot.client = client::after_charge(&slot.client, units);
-                shift(&mut self.heap, slot, place.key);
+                shift(&mut self.heap, slot, client_key.key);
             }
         }
     }

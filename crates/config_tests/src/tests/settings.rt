@@ -6,6 +6,7 @@ use share_config::read_settings;
 use share_gateway::Plan;
 use share_settings::Settings;
 use std::alloc::{AllocError, Global};
+use std::mem;
 use std::process::Abort;
 
 /// A tenant of a file: its name, its flow number, and whether the file holds it.
@@ -54,7 +55,7 @@ fn file_of(alloc: Global, tenants: &[TenantRow]) -> Result<String, AllocError> {
 /// The plan of a file with these tenants.
 pub(super) fn plan_of(rt: &impl Abort, alloc: Global, tenants: &[TenantRow]) -> Plan {
     let text = file_of(alloc, tenants).expect(rt, "memory");
-    let settings = read_settings(alloc, text.as_str()).expect(rt, "a plan");
-    let Settings { plan, .. } = settings;
-    plan
+    let mut settings = read_settings(alloc, text.as_str()).expect(rt, "a plan");
+    let none = Plan::new(Vec::new(alloc), Vec::new(alloc)).expect(rt, "a plan of nobody");
+    mem::replace(&mut settings.plan, none)
 }

@@ -78,8 +78,8 @@ fn offers<T: Abort + Wait, L: LinkBrand>(
 ) {
     let pace = &shared.stage.pace;
     let flow = flow_of(rt, worker);
-    let mut held = slot.lock(rt);
-    let end = held.as_mut().expect(rt, "an end");
+    let mut locked = slot.lock(rt);
+    let end = locked.as_mut().expect(rt, "an end");
     let parker = Parker::new();
     pace.end_waiting(worker);
     for n in 1..=PACKETS {
@@ -139,8 +139,8 @@ fn offers_alone<T: Abort + Wait, L: LinkBrand>(
     slot: &Slot<L>,
 ) {
     let flow = flow_of(rt, 1);
-    let mut held = slot.lock(rt);
-    let end = held.as_mut().expect(rt, "an end");
+    let mut locked = slot.lock(rt);
+    let end = locked.as_mut().expect(rt, "an end");
     for n in 1..=LONE_PACKETS {
         let parcel = Parcel::new(alloc, b"x").expect(rt, "a payload");
         shared.stage.pace.end_waiting(1);

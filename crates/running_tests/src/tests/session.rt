@@ -149,8 +149,8 @@ impl<'a, T: Abort + Wait, W: TellingWriter, L: LinkBrand> Session<'a, T, W, L> {
         let (flow, payload) = what.split_once(" ").expect(rt, "a flow and a payload");
         let parcel = parcel(rt, self.alloc, payload);
         let slot = stage.ends.get(place_of(rt, end)).expect(rt, "a place");
-        let mut held = slot.lock(rt);
-        let end = held.as_mut().expect(rt, "an end");
+        let mut locked = slot.lock(rt);
+        let end = locked.as_mut().expect(rt, "an end");
         let offered = end.offer(rt, name(rt, flow.as_bytes()), parcel);
         stage.pace.ring();
         match &offered {

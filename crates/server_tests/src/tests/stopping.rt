@@ -52,10 +52,10 @@ fn offers_and_stops<T: Wait + Abort, S: Rates, L: LinkBrand>(
     end: &mut IngressEnd,
     stop: &Stop,
 ) {
-    let held = port.lock(rt);
+    let locked = port.lock(rt);
     offers(rt, alloc, end);
     stop.set();
-    drop(held);
+    drop(locked);
 }
 
 // Serves a link, and stops it so at a moment after the beginning.

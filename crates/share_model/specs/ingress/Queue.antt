@@ -88,7 +88,7 @@ a_spent_side = record {
 abbrev pub IsWorker : ℕ → ℕ → Type 0
 IsWorker workers w = (1 ≤ w) × (w ≤ workers)
 
--- each worker has one end, which was made and is not closed; what it pushed was popped or is held
+-- each worker has one end, which was made and is not closed; what it pushed was popped or is queued
 pub record IsEnd (pass_of : ℕ → ℕ) (got items : List Offer) (made : ℕ) (shut : ℕ → Bool) (pass : ℕ) (v : QueueView)
     : Type 0
   where

@@ -4,8 +4,8 @@ use Rattle.share_ledger.proofs.WeightLemmas.{array-set, weight_from-woken, weigh
 use Rattle.share_ledger.proofs.valuation.flip.Goals as goal
 use Rattle.std.proofs.lemmas.Bool.Decides.{nat_tests}
 
-pub subtract_all-requires-clause-held : goal.subtract_all-requires-clause-held
-subtract_all-requires-clause-held c = λ x below.
+pub subtract_all-requires-clause-covered : goal.subtract_all-requires-clause-covered
+subtract_all-requires-clause-covered c = λ x below.
     let was = c.requires.counted x below in
     let moved = weight_from-rested _ _ c.requires.ticketed _ c.requires.place _
     c.funding_tickets_at-funding_tickets.ensures.value

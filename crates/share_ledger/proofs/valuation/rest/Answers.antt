@@ -4,8 +4,8 @@ use Rattle.share_ledger.specs.FundingTickets.{amount_from}
 use Rattle.share_ledger.proofs.WeightLemmas.{array-set, weight_from-rested}
 use Rattle.share_ledger.proofs.valuation.rest.Goals as goal
 
-pub subtract_all-requires-clause-held : goal.subtract_all-requires-clause-held
-subtract_all-requires-clause-held c = λ x below.
+pub subtract_all-requires-clause-covered : goal.subtract_all-requires-clause-covered
+subtract_all-requires-clause-covered c = λ x below.
     let was = c.requires.counted x below in
     let loss = weight_from-rested _ _ c.requires.ticketed _ c.requires.place _ c.funding_tickets_at.ensures.value
     (flags_of c.args.active.now) (flags_of (set c.args.active.now c.args.place false)) c.requires.active

@@ -7,4 +7,4 @@ overflow_sub-weights c =
     subtract_all-fits c.args.funding_tickets.now c.loop-funding_ticket.funding_ticket-index _
     (numbers_of c.args.weights.now)
     (numbers_of c.loop-funding_ticket.weights) c.requires.within c.loop-funding_ticket-test.true
-    c.requires.held c.loop-funding_ticket.invariant.lowered
+    c.requires.covered c.loop-funding_ticket.invariant.lowered

@@ -21,8 +21,8 @@ enter-requires-clause-stride c =
     subst (AreInStep c.args.clients.now) (sym c.update.ensures)
     (AreInStep-after_update c.args.clients.now c.args.global.now c.requires.kept) in
     let s = state_of c.args.clients.now c.update.new.global in
-    stride_is s c.args.place.flow (client_at c.args.clients.now c.args.place) kept.sound
-    (is_there s c.args.place.flow c.requires.there)
+    stride_is s c.args.client_key.flow (client_at c.args.clients.now c.args.client_key) kept.sound
+    (is_there s c.args.client_key.flow c.requires.there)
 
 pub enter-requires-clause-remain : goal.enter-requires-clause-remain
 enter-requires-clause-remain c =
@@ -30,8 +30,8 @@ enter-requires-clause-remain c =
     subst (AreInStep c.args.clients.now) (sym c.update.ensures)
     (AreInStep-after_update c.args.clients.now c.args.global.now c.requires.kept) in
     let s = state_of c.args.clients.now c.update.new.global in
-    remain_fits s c.args.place.flow (client_at c.args.clients.now c.args.place) kept.sound
-    (is_there s c.args.place.flow c.requires.there) c.requires.idle
+    remain_fits s c.args.client_key.flow (client_at c.args.clients.now c.args.client_key) kept.sound
+    (is_there s c.args.client_key.flow c.requires.there) c.requires.idle
 
 pub overflow_add-global : goal.overflow_add-global
 overflow_add-global c =
@@ -49,6 +49,6 @@ returns-clause-kept c =
     (AreInStep-after_update c.args.clients.now c.args.global.now c.requires.kept) in
     let s = state_of c.args.clients.now c.update.new.global in
     rw (c.enter.ensures, c.from.ensures)
-    (IsInStep-after_join c.update.new.global.tickets s c.args.place.flow
-    (client_at c.args.clients.now c.args.place) c.args.tickets kept
-    (is_there s c.args.place.flow c.requires.there) c.requires.idle c.requires.some c.requires.few)
+    (IsInStep-after_join c.update.new.global.tickets s c.args.client_key.flow
+    (client_at c.args.clients.now c.args.client_key) c.args.tickets kept
+    (is_there s c.args.client_key.flow c.requires.there) c.requires.idle c.requires.some c.requires.few)

@@ -20,8 +20,8 @@ leave-requires-clause-distance c =
     subst (AreInStep c.args.clients.now) (sym c.update.ensures)
     (AreInStep-after_update c.args.clients.now c.args.global.now c.requires.kept) in
     let s = state_of c.args.clients.now c.update.new.global in
-    ahead_fits s c.args.place.flow (client_at c.args.clients.now c.args.place) kept.sound
-    (is_there s c.args.place.flow c.requires.there) c.requires.competes
+    ahead_fits s c.args.client_key.flow (client_at c.args.clients.now c.args.client_key) kept.sound
+    (is_there s c.args.client_key.flow c.requires.there) c.requires.competes
 
 pub overflow_sub-global : goal.overflow_sub-global
 overflow_sub-global c =
@@ -30,8 +30,8 @@ overflow_sub-global c =
     (AreInStep-after_update c.args.clients.now c.args.global.now c.requires.kept) in
     let s = state_of c.args.clients.now c.update.new.global in
     let total = kept.total in
-    let le = tickets_le_total s.clients c.args.place.flow (client_at c.args.clients.now c.args.place) (sym
-    (is_there s c.args.place.flow c.requires.there))
+    let le = tickets_le_total s.clients c.args.client_key.flow (client_at c.args.clients.now c.args.client_key) (sym
+    (is_there s c.args.client_key.flow c.requires.there))
     c.requires.competes in
     omega (arith, c.from.ensures, c.leave.ensures.tickets)
 
@@ -42,6 +42,7 @@ returns-clause-kept c =
     (AreInStep-after_update c.args.clients.now c.args.global.now c.requires.kept) in
     let s = state_of c.args.clients.now c.update.new.global in
     rw (c.leave.ensures.left, c.from.ensures, c.leave.ensures.tickets)
-    (IsInStep-after_leave c.update.new.global.tickets s c.args.place.flow (client_at c.args.clients.now c.args.place)
+    (IsInStep-after_leave c.update.new.global.tickets s c.args.client_key.flow
+        (client_at c.args.clients.now c.args.client_key)
     kept
-    (is_there s c.args.place.flow c.requires.there) c.requires.competes)
+    (is_there s c.args.client_key.flow c.requires.there) c.requires.competes)

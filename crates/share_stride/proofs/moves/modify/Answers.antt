@@ -22,8 +22,8 @@ modify-before-requires-clause-stride c =
     subst (AreInStep c.args.clients.now) (sym c.update.ensures)
     (AreInStep-after_update c.args.clients.now c.args.global.now c.requires.kept) in
     let s = state_of c.args.clients.now c.update.new.global in
-    stride_is s c.args.place.flow (client_at c.args.clients.now c.args.place) kept.sound
-    (is_there s c.args.place.flow c.requires.there)
+    stride_is s c.args.client_key.flow (client_at c.args.clients.now c.args.client_key) kept.sound
+    (is_there s c.args.client_key.flow c.requires.there)
 
 pub modify-before-requires-clause-distance : goal.modify-before-requires-clause-distance
 modify-before-requires-clause-distance c =
@@ -31,8 +31,8 @@ modify-before-requires-clause-distance c =
     subst (AreInStep c.args.clients.now) (sym c.update.ensures)
     (AreInStep-after_update c.args.clients.now c.args.global.now c.requires.kept) in
     let s = state_of c.args.clients.now c.update.new.global in
-    pass_distance_fits s c.args.place.flow (client_at c.args.clients.now c.args.place) kept.sound
-    (is_there s c.args.place.flow c.requires.there) c.requires.competes
+    pass_distance_fits s c.args.client_key.flow (client_at c.args.clients.now c.args.client_key) kept.sound
+    (is_there s c.args.client_key.flow c.requires.there) c.requires.competes
 
 pub overflow_sub-global : goal.overflow_sub-global
 overflow_sub-global c =
@@ -41,8 +41,8 @@ overflow_sub-global c =
     (AreInStep-after_update c.args.clients.now c.args.global.now c.requires.kept) in
     let s = state_of c.args.clients.now c.update.new.global in
     let total = kept.total in
-    let le = tickets_le_total s.clients c.args.place.flow (client_at c.args.clients.now c.args.place) (sym
-    (is_there s c.args.place.flow c.requires.there))
+    let le = tickets_le_total s.clients c.args.client_key.flow (client_at c.args.clients.now c.args.client_key) (sym
+    (is_there s c.args.client_key.flow c.requires.there))
     c.requires.competes in
     omega (arith, c.from.ensures, c.modify-before.ensures.tickets)
 
@@ -62,14 +62,14 @@ returns-clause-kept c =
     (AreInStep-after_update c.args.clients.now c.args.global.now c.requires.kept) in
     let s = state_of c.args.clients.now c.update.new.global in
     rw (c.modify-before.ensures.modified, c.from.ensures, c.from-2.ensures, c.modify-before.ensures.tickets)
-    (IsInStep-modified c.update.new.global.tickets s c.args.place.flow
-    (client_at c.args.clients.now c.args.place) c.args.tickets kept
-    (is_there s c.args.place.flow c.requires.there) c.requires.competes c.requires.some c.requires.few)
+    (IsInStep-modified c.update.new.global.tickets s c.args.client_key.flow
+    (client_at c.args.clients.now c.args.client_key) c.args.tickets kept
+    (is_there s c.args.client_key.flow c.requires.there) c.requires.competes c.requires.some c.requires.few)
 
 pub returns-clause-modified : goal.returns-clause-modified
 returns-clause-modified c =
     rw c.modify-before.ensures.modified
     (modified_is (state_of c.args.clients.now c.args.global.now) (state_of c.args.clients.now c.update.new.global)
-    c.args.place.flow c.args.tickets
+    c.args.client_key.flow c.args.tickets
     (ap (state_of c.args.clients.now) c.update.ensures
     ∙ updated_is c.args.clients.now c.args.global.now c.requires.kept))

@@ -5,8 +5,8 @@ use Rattle.share_flows.proofs.RingLemmas.{standing_of}
 use Rattle.share_flows.proofs.DistinctFlowLemmas.{apart-remove}
 use Rattle.share_flows.proofs.buffers.Buffers.close.Goals as goal
 
-pub returns-clause-held : goal.returns-clause-held
-returns-clause-held c =
+pub returns-clause-count : goal.returns-clause-count
+returns-clause-count c =
     c.count.ensures.count
     ∙ ap count_by (sym (standing_of _ _ c.handle-handle.result c.remove-ring.result c.self.view_is
     c.handle-handle.ensures.stands c.remove-ring.ensures.value _ c.handle-handle.ensures.flow))

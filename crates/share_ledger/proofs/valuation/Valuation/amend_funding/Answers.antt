@@ -28,8 +28,8 @@ add_funding_ticket-requires-clause-room c =
     kept.0.funding kept.2 gone.others gone.out gone.places)
     c.requires.within.to_place kept.4
 
-pub subtract_one-requires-clause-held : goal.subtract_one-requires-clause-held
-subtract_one-requires-clause-held c =
+pub subtract_one-requires-clause-covered : goal.subtract_one-requires-clause-covered
+subtract_one-requires-clause-covered c =
     let r = c.args.route.now in
     let b = c.requires.begun in
     let kept = b.1.1.1.1 in

@@ -12,8 +12,8 @@ remove_funding_ticket-requires-clause-has c =
     funding_ticket-there b.0 (backs_of c.args.tables.now) c.args.route.now c.args.self.now.backing.items b.1.1.0.backing
     c.requires.within.to_place b.1.1.1
 
-pub subtract_one-requires-clause-held : goal.subtract_one-requires-clause-held
-subtract_one-requires-clause-held c =
+pub subtract_one-requires-clause-covered : goal.subtract_one-requires-clause-covered
+subtract_one-requires-clause-covered c =
     let g = c.args.tables.now in
     let r = c.args.route.now in
     let b = c.requires.begun in

@@ -13,8 +13,8 @@ remove_funding_ticket-requires-clause-has c =
     b.1.1.0.funding
     c.requires.within.to_place b.1.1.2
 
-pub subtract_one-requires-clause-held : goal.subtract_one-requires-clause-held
-subtract_one-requires-clause-held c =
+pub subtract_one-requires-clause-covered : goal.subtract_one-requires-clause-covered
+subtract_one-requires-clause-covered c =
     let g = c.args.tables.now in
     let r = c.args.route.now in
     let b = c.requires.begun in

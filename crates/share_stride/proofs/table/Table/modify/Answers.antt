@@ -12,7 +12,7 @@ use Rattle.share_stride.proofs.table.Table.modify.Goals as goal
 
 pub after_leave-client-requires-clause-distance : goal.after_leave-client-requires-clause-distance
 after_leave-client-requires-clause-distance c =
-    let is = client_is_at _ _ _ c.self.invariant.indexed c.self.view_is c.args.place c.requires.place _
+    let is = client_is_at _ _ _ c.self.invariant.indexed c.self.view_is c.args.client_key c.requires.client_key _
     c.in-Some.ensures.value in
     let stride = subst (λ (k : Client). k.stride ≡ stride_of k.tickets) (sym is) c.requires.stride in
     let distance =
@@ -25,50 +25,50 @@ pub after_join-slot-requires-clause-stride : goal.after_join-slot-requires-claus
 after_join-slot-requires-clause-stride c =
     rw c.after_leave-client.ensures
     (subst (λ (k : Client). k.stride ≡ stride_of k.tickets)
-    (sym (client_is_at _ _ _ c.self.invariant.indexed c.self.view_is c.args.place c.requires.place _
+    (sym (client_is_at _ _ _ c.self.invariant.indexed c.self.view_is c.args.client_key c.requires.client_key _
     c.in-Some.ensures.value)) c.requires.stride)
 
 pub after_join-slot-requires-clause-remain : goal.after_join-slot-requires-clause-remain
 after_join-slot-requires-clause-remain c =
     rw c.after_leave-client.ensures
     (subst (λ (k : Client). IsWithin (k.pass -ℤ pos c.args.global_pass) (k.stride * 2 ^ 41))
-    (sym (client_is_at _ _ _ c.self.invariant.indexed c.self.view_is c.args.place c.requires.place _
+    (sym (client_is_at _ _ _ c.self.invariant.indexed c.self.view_is c.args.client_key c.requires.client_key _
     c.in-Some.ensures.value)) c.requires.distance)
 
 pub invariant_of-self : goal.invariant_of-self
 invariant_of-self c =
-    (IsWellFormed-written _ _ _ _ c.self.invariant c.self.view_is c.args.place c.requires.place _
+    (IsWellFormed-written _ _ _ _ c.self.invariant c.self.view_is c.args.client_key c.requires.client_key _
     c.in-Some.ensures.value c.after_join-slot.result _
     (c.shift.ensures))
 
 pub unreachable-requires : goal.unreachable-requires
 unreachable-requires c =
-    place_filled _ _ _ c.self.invariant.indexed c.self.view_is c.args.place c.requires.place
+    place_filled _ _ _ c.self.invariant.indexed c.self.view_is c.args.client_key c.requires.client_key
     c.in-None.ensures.value
 
 pub returns-clause-tickets : goal.returns-clause-tickets
 returns-clause-tickets c =
-    let is = client_is_at _ _ _ c.self.invariant.indexed c.self.view_is c.args.place c.requires.place _
+    let is = client_is_at _ _ _ c.self.invariant.indexed c.self.view_is c.args.client_key c.requires.client_key _
     c.in-Some.ensures.value in
     ap (λ (k : Client). k.tickets) is
 
 pub returns-clause-modified : goal.returns-clause-modified
 returns-clause-modified c =
-    let is = client_is_at _ _ _ c.self.invariant.indexed c.self.view_is c.args.place c.requires.place _
+    let is = client_is_at _ _ _ c.self.invariant.indexed c.self.view_is c.args.client_key c.requires.client_key _
     c.in-Some.ensures.value in
-    (view_written _ _ _ c.self.invariant.indexed c.self.view_is c.args.place c.requires.place _
+    (view_written _ _ _ c.self.invariant.indexed c.self.view_is c.args.client_key c.requires.client_key _
     c.in-Some.ensures.value c.after_join-slot.result
-    ∙ ap (with_client_at c.args.self.now c.args.place)
+    ∙ ap (with_client_at c.args.self.now c.args.client_key)
     (c.after_join-slot.ensures
     ∙ ap (λ (k : Client). after_join c.args.global_pass k c.args.tickets) c.after_leave-client.ensures
     ∙ ap (λ (k : Client). after_join c.args.global_pass (after_leave c.args.global_pass k) c.args.tickets) is))
 
 pub shift-requires-clause-key : goal.shift-requires-clause-key
 shift-requires-clause-key c =
-    place_fits _ _ _ _ c.self.invariant c.self.view_is c.args.place c.requires.place _ c.in-Some.ensures.value
+    place_fits _ _ _ _ c.self.invariant c.self.view_is c.args.client_key c.requires.client_key _ c.in-Some.ensures.value
 
 pub shift-requires-clause-stands : goal.shift-requires-clause-stands
 shift-requires-clause-stands c =
-    stood_as _ _ _ _ c.self.invariant c.self.view_is c.args.place c.requires.place _ c.in-Some.ensures.value
+    stood_as _ _ _ _ c.self.invariant c.self.view_is c.args.client_key c.requires.client_key _ c.in-Some.ensures.value
     ∙ c.requires.competes
     ∙ sym (ap (λ (k : Client). k.competes) c.after_join-slot.ensures)

@@ -186,7 +186,8 @@ def clients_reset_while_the_link_waits(run):
     server = run.server(peer, workers=2, clerks=2)
     first, second = server.control(), server.control()
     second.fund()
-    gone, some = packets("a", 0, 2000, 1000), packets("a", 1, 100, 100)
+    # More than the buffers of a flow and of a connection take.
+    gone, some = packets("a", 0, 16000, 1000), packets("a", 1, 100, 100)
     flooding, stays = server.ingress(), server.ingress()
     fill(flooding, records(gone))
     first.send(b"mkcur x\nreport\n" * 100)

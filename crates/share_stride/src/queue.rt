@@ -103,11 +103,11 @@ impl Queue {
     {
         match self.clients.find(flow) {
             None => unreachable!(),
-            Some(client_key) => moves::join(
+            Some(key) => moves::join(
                 &mut self.clients,
                 &mut self.global,
                 &mut self.cached,
-                client_key,
+                key,
                 tickets,
             ),
         }
@@ -122,12 +122,7 @@ impl Queue {
     {
         match self.clients.find(flow) {
             None => unreachable!(),
-            Some(client_key) => moves::leave(
-                &mut self.clients,
-                &mut self.global,
-                &mut self.cached,
-                client_key,
-            ),
+            Some(key) => moves::leave(&mut self.clients, &mut self.global, &mut self.cached, key),
         }
     }
 
@@ -141,11 +136,11 @@ impl Queue {
     {
         match self.clients.find(flow) {
             None => unreachable!(),
-            Some(client_key) => moves::modify(
+            Some(key) => moves::modify(
                 &mut self.clients,
                 &mut self.global,
                 &mut self.cached,
-                client_key,
+                key,
                 tickets,
             ),
         }
@@ -160,29 +155,24 @@ impl Queue {
     {
         match self.clients.find(flow) {
             None => unreachable!(),
-            Some(client_key) => {
-                let client = self.clients.at(&client_key);
+            Some(key) => {
+                let client = self.clients.at(&key);
                 if !client.competes && tickets > 0 {
                     moves::join(
                         &mut self.clients,
                         &mut self.global,
                         &mut self.cached,
-                        client_key,
+                        key,
                         tickets,
                     );
                 } else if client.competes && tickets == 0 {
-                    moves::leave(
-                        &mut self.clients,
-                        &mut self.global,
-                        &mut self.cached,
-                        client_key,
-                    );
+                    moves::leave(&mut self.clients, &mut self.global, &mut self.cached, key);
                 } else if client.competes && client.tickets != tickets {
                     moves::modify(
                         &mut self.clients,
                         &mut self.global,
                         &mut self.cached,
-                        client_key,
+                        key,
                         tickets,
                     );
                 }
@@ -199,12 +189,7 @@ impl Queue {
     {
         match self.clients.find(flow) {
             None => unreachable!(),
-            Some(client_key) => moves::charge(
-                &mut self.clients,
-                &mut self.global,
-                client_key,
-                units,
-            ),
+            Some(key) => moves::charge(&mut self.clients, &mut self.global, key, units),
         }
     }
 
@@ -244,7 +229,7 @@ impl Queue {
     {
         match self.clients.find(flow) {
             None => unreachable!(),
-            Some(client_key) => client::position(&self.clients.at(&client_key)),
+            Some(key) => client::position(&self.clients.at(&key)),
         }
     }
 

@@ -30,7 +30,7 @@ module _ (slots : Slots) (keys : FinMap nat_cmp ℕ) (now : Clients) (indexed : 
   place_holds : HoldsFlow slots client_key.flow client_key.key
   place_holds =
       key_holds slots keys client_key.flow client_key.key indexed
-          (ap (λ (c : Clients). get c.keys client_key.flow) view ∙ is_in)
+      (ap (λ (c : Clients). get c.keys client_key.flow) view ∙ is_in)
 
   pub place_filled : None ≡ slot_at slots client_key.key → ⊥
   place_filled none = let found = place_holds.found in absurd (cc)
@@ -149,7 +149,7 @@ module _ (slab : Slab ClientSlot) (keys : FinMap nat_cmp ℕ) (standings : Stand
       → after ≡ set standings client_key.key (entry_of client_key.key (record { flow = was.flow; client = client }))
       → IsWellFormed
       (record slab { slots = set slab.slots client_key.key (Some (record { flow = was.flow; client = client })) })
-          keys after
+      keys after
   IsWellFormed-written client after is =
       let slot : ClientSlot = record { flow = was.flow; client = client } in
       let change = changes slab.slots keys now well.indexed view client_key is_in was at client in

@@ -43,6 +43,6 @@ returns-clause-kept c =
     let s = state_of c.args.clients.now c.update.new.global in
     rw (c.leave.ensures.left, c.from.ensures, c.leave.ensures.tickets)
     (IsInStep-after_leave c.update.new.global.tickets s c.args.client_key.flow
-        (client_at c.args.clients.now c.args.client_key)
+    (client_at c.args.clients.now c.args.client_key)
     kept
     (is_there s c.args.client_key.flow c.requires.there) c.requires.competes)

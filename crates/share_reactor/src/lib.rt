@@ -2,14 +2,12 @@
 //! books to disk.
 #![tactic(auto)]
 
-mod last_books;
 mod obeying;
 mod reactor;
 mod reloading;
 mod running;
 mod serving;
 mod start;
-mod status;
 
 pub use reactor::Options;
 pub use running::{FirstBook, run};

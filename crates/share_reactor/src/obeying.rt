@@ -125,7 +125,7 @@ impl Reactor<'_> {
     ) -> Result<Vec<u8>, Refusal> {
         match duty {
             Duty::Report => self.books.report(),
-            Duty::Status => text_of(self.status()),
+            Duty::Status => text_of(self.parts().status()),
             Duty::Reload => text_of(self.reload(rt, path)),
             Duty::Rotate => {
                 self.books.close(Closing::Rotate);

@@ -2,6 +2,7 @@
 
 use mio::event::Event;
 use mio::{Events, Poll, Token};
+use share_answers::Parts;
 use share_base::FlowNo;
 use share_catalog::Closing;
 use share_doorways::{Doorways, PortAddress, Source, Sources, remove_file};
@@ -94,6 +95,18 @@ fn shorter(pause: Option<Duration>, other: Duration) -> Option<Duration> {
 }
 
 impl Reactor<'_> {
+    /// The parts of the gateway that answers tell of.
+    pub(crate) fn parts(&self) -> Parts<'_> {
+        Parts {
+            alloc: self.alloc,
+            settings: &self.settings,
+            books: &*self.books,
+            doorways: &self.doorways,
+            uplink: self.uplink.as_ref(),
+            far_end: self.far_end.as_ref(),
+        }
+    }
+
     /// Runs until the end was asked for and is over. Returns what was left.
     pub(crate) fn run<R: Files<File = File> + Net + Clock + Wait + Eprint>(
         &mut self,

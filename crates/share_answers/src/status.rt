@@ -1,16 +1,18 @@
-//! The state of a gateway.
+//! The status of a gateway.
 
-use crate::reactor::Reactor;
 use share_base::FlowNo;
 use share_book::Book;
+use share_doorways::Doorways;
 use share_gateway::Tenant;
+use share_listeners::FarEnd;
 use share_metrics::metrics_text;
-use share_rotation::Sent;
+use share_rotation::{Books, Sent};
+use share_settings::Settings;
 use share_status::{
     DiskStatus, Status, TenantStatus, UplinkState as Shown, UplinkStatus, status_text,
 };
 use share_tariff::PlainShelf;
-use share_uplink::UplinkState;
+use share_uplink::{Uplink, UplinkState};
 use share_web::Exposition;
 use std::alloc::{AllocError, Global};
 
@@ -18,6 +20,17 @@ use std::alloc::{AllocError, Global};
 const VERSION: &str = "0.1.0";
 
 const PROVED: &str = "rattle-kit-13b logic dac8208d650f15bf";
+
+/// The parts of a gateway that answers tell of.
+#[derive(Clone, Copy)]
+pub struct Parts<'a> {
+    pub alloc: Global,
+    pub settings: &'a Settings,
+    pub books: &'a Books,
+    pub doorways: &'a Doorways,
+    pub uplink: Option<&'a Uplink>,
+    pub far_end: Option<&'a FarEnd>,
+}
 
 /// The form of a status.
 #[derive(Clone, Copy, Debug, PartialEq, Eq)]
@@ -36,13 +49,13 @@ impl Form {
     }
 }
 
-impl Reactor<'_> {
-    /// The line that answers `status`, while a book is open.
-    pub(crate) fn status(&self) -> Result<Vec<u8>, AllocError> {
+impl Parts<'_> {
+    /// The line that answers `status`. It is empty while no book is open.
+    pub fn status(&self) -> Result<Vec<u8>, AllocError> {
         self.status_in(Form::Line)
     }
 
-    /// The status in a form, while a book is open.
+    /// The status in a form. It is empty while no book is open.
     pub(crate) fn status_in(&self, form: Form) -> Result<Vec<u8>, AllocError> {
         match self.books.open_book() {
             Some(book) => self.status_of(book, form),
@@ -71,7 +84,7 @@ impl Reactor<'_> {
                     fault: fault.as_deref(),
                 },
                 tenants: tenants.as_slice(),
-                downlink: self.far_end.as_ref().map(|far_end| far_end.status()),
+                downlink: self.far_end.map(|far_end| far_end.status()),
             },
         )
     }
@@ -100,11 +113,12 @@ impl Reactor<'_> {
     }
 
     fn rate(&self) -> Option<u64> {
-        self.settings.uplink?.rate
+        let settings = self.settings;
+        settings.uplink?.rate
     }
 
     fn uplink_status(&self) -> Option<UplinkStatus> {
-        let uplink = self.uplink.as_ref()?;
+        let uplink = self.uplink?;
         let state = match uplink.state() {
             UplinkState::Up => Shown::Up,
             UplinkState::Dialling => Shown::Dialling,

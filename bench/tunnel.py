@@ -5,14 +5,15 @@
 each host, and its tenants have TUN devices. `htb` is no tunnel, but the same shares as classes of `tc htb` at the near
 end of the link. `pump` is a plain program in the place of the gateway (bench/pump), with shares by deficit round robin.
 `fifo` is that program without shares. The environment names the gateway as for tests/gateway.py, and SECONDS is how
-long a case is measured (20). LINKS are the rates of the links in Mbit/s (20 200); each has 10 ms each way.
+long shares are measured (20). LINKS are the rates of the links in Mbit/s (20 200); each has 10 ms each way.
 
 Four tenants with 400:300:200:100 tickets send by iperf3 from one host to the other. The cases:
 
 - *equal*: a stream each;
 - *eight streams*: the tenant with the fewest tickets has eight;
 - *flood*: that tenant sends datagrams at one and a half times the rate of the link;
-- *away*: a tenant ends its stream and comes back. What it has back is measured from a second after its first packet.
+- *away*: a tenant ends its stream and comes back. Shares are measured three times: before, while it is away, and from a
+  second after its first packet.
 
 A row has by how much a share was off at most, of the bytes of IP out of the far devices and of what iperf3 received,
 which part of the link was used, and how much longer an echo of a fifth, idle tenant took than over the empty link, at
@@ -116,12 +117,12 @@ class Measured:
             wait_for(lambda one=flood: one.counted_until() >= self.phases[-1][1], "what iperf3 counts")
 
     def leave(self, tenant):
-        self.phase(SECONDS / 3)
+        self.phase(SECONDS)
         first = self.floods[tenant]
         wait_for(lambda: first.counted_until() >= self.phases[-1][1], "what iperf3 counts")
         first.stop()
         time.sleep(DRAINED)
-        self.phase(SECONDS / 3, tenant)
+        self.phase(SECONDS, tenant)
         before = self.arrived(tenant)
         self.floods[tenant] = self.flood(tenant)
         # The connection of iperf3 that carries no data has some hundred bytes.
@@ -129,7 +130,7 @@ class Measured:
             self.floods[tenant].client.expect_runs()
             time.sleep(0.01)
         time.sleep(BACK)
-        self.phase(SECONDS / 3)
+        self.phase(SECONDS)
         self.firsts = {tenant: first}
 
     def has_devices(self):

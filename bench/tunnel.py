@@ -24,8 +24,8 @@ skipped. All that is made ends with the program, however it ends.
 
 The host of a virtual machine may take its processors for tenths of a second, and then gateways, link and loads stand
 still. What waits meanwhile drains by the twentieth of the link that a rate leaves, so a pause of 10 ms is felt for 200.
-The last cell has the part of the processors' time that was taken. A case with more than 0.01 of it is measured again,
-whatever it found, and at most TIMES times (3). If all had more, the bound of the last one does not hold.
+The last cell has the part of the processors' time that was taken. A case in which a bound does not hold is measured
+again if that was more than 0.01, and at most TIMES times (3).
 `chrt --rr 20` in front has all programs of the bench run ahead of the others of a busy machine.
 """
 import os
@@ -46,7 +46,7 @@ CLASSES = Uplink("htb, 95 %", False, 0.95)
 # The bounds: of the errors of shares, of the part of the link that is used, and of the wait of an idle tenant in ms.
 MOST_IP, MOST_GOODPUT, LEAST_USED, MOST_WAIT = 0.002, 0.01, 0.93, 12
 
-# The bound of the part of the processors' time that the host of this machine may take.
+# The part of the processors' time that the host of this machine may take if a bound that does not hold is to count.
 MOST_STOLEN = 0.01
 
 # How long streams take to grow, what is left of one that ends is on its way, and one that is back has to get its share.
@@ -217,16 +217,17 @@ def measured_cells(subject, wire, uplink, case, programs):
 
 
 def measure(subject, wire, uplink, case, programs):
-    """Prints the row of a case, and another one if too much of the machine's time was stolen."""
+    """Prints the row of a case, and another one if a bound does not hold while too much of the time was stolen."""
     name = [subject, f"{wire.megabits:g} Mbit/s", uplink.name, case.name]
     for _ in range(TIMES):
         stolen = Stolen()
         cells = measured_cells(subject, wire, uplink, case, programs)
         part = stolen.part()
-        print_row([*name, *cells, bounded(f"{part:.4f}", part <= MOST_STOLEN, MOST_STOLEN)])
-        if part <= MOST_STOLEN:
+        print_row([*name, *cells, f"{part:.4f}"])
+        is_missed = any("(bound" in cell for cell in cells)
+        if not is_missed or part <= MOST_STOLEN:
             break
-    if part > MOST_STOLEN or any("(bound" in cell for cell in cells):
+    if is_missed:
         FAILED.append(", ".join(name))
 
 

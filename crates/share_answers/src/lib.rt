@@ -1,4 +1,4 @@
-//! The answers that tell the state of a gateway that runs: to `status`, and to web connections.
+//! The answers about a gateway that runs: to `status`, and to web connections.
 #![tactic(auto)]
 
 mod last_books;

@@ -21,7 +21,7 @@ const VERSION: &str = "0.1.0";
 
 const PROVED: &str = "rattle-kit-13b logic dac8208d650f15bf";
 
-/// The parts of a gateway that answers tell of.
+/// The parts of a gateway that answers are about.
 #[derive(Clone, Copy)]
 pub struct Parts<'a> {
     pub alloc: Global,

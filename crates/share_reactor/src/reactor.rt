@@ -95,7 +95,7 @@ fn shorter(pause: Option<Duration>, other: Duration) -> Option<Duration> {
 }
 
 impl Reactor<'_> {
-    /// The parts of the gateway that answers tell of.
+    /// The parts of the gateway that answers are about.
     pub(crate) fn parts(&self) -> Parts<'_> {
         Parts {
             alloc: self.alloc,

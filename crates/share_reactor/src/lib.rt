@@ -7,7 +7,6 @@ mod reactor;
 mod reloading;
 mod running;
 mod serving;
-mod start;
 
 pub use reactor::Options;
 pub use running::{FirstBook, run};

@@ -23,9 +23,9 @@ impl Reactor<'_> {
         now: Instant,
     ) -> bool {
         let mut is_busy = false;
-        for key in 0..self.controls.bound() {
+        for key in 0..self.sockets.controls.bound() {
             is_busy |= self.obey_connection(rt, path, key, now);
-            is_busy |= self.controls.send(&mut self.sources, key);
+            is_busy |= self.sockets.controls.send(&mut self.sockets.sources, key);
         }
         is_busy
     }
@@ -54,7 +54,7 @@ impl Reactor<'_> {
         key: usize,
         now: Instant,
     ) -> bool {
-        let Some(connection) = self.controls.get(key) else {
+        let Some(connection) = self.sockets.controls.get(key) else {
             return false;
         };
         let order = match connection.front(now) {
@@ -71,7 +71,7 @@ impl Reactor<'_> {
 
     // Gives a connection the reply to its line, or closes it if there is no memory for that.
     fn reply(&mut self, key: usize, answer: Result<Vec<u8>, Refusal>) {
-        if let Some(connection) = self.controls.get(key) {
+        if let Some(connection) = self.sockets.controls.get(key) {
             match answer {
                 Ok(text) => connection.pass(text.as_slice()),
                 Err(_) => connection.close(),

@@ -1,17 +1,14 @@
 //! The loop of a gateway.
 
-use mio::event::Event;
-use mio::{Events, Poll, Token};
+use mio::Events;
 use share_answers::Parts;
 use share_base::FlowNo;
 use share_catalog::Closing;
-use share_doorways::{Doorways, PortAddress, Source, Sources, remove_file};
-use share_listeners::{Controls, FarEnd, Input, Web};
+use share_gateway_sockets::GatewaySockets;
 use share_news::News;
 use share_reload::{ControlHolds, Roster};
 use share_rotation::{Books, Frame, Left, Made};
 use share_settings::Settings;
-use share_uplink::{Uplink, Work};
 use std::alloc::Global;
 use std::fs::{File, Files};
 use std::io;
@@ -66,16 +63,7 @@ pub(crate) enum Ending {
 #[derive(Drop)]
 pub struct Reactor<'b> {
     pub(crate) alloc: Global,
-    pub(crate) poll: Poll,
-    pub(crate) sources: Sources,
-    pub(crate) doorways: Doorways,
-    pub(crate) controls: Controls,
-    pub(crate) control_address: PortAddress,
-    pub(crate) web: Option<Web>,
-    pub(crate) uplink: Option<Uplink>,
-    pub(crate) uplink_token: Token,
-    pub(crate) far_end: Option<FarEnd>,
-    pub(crate) input: Input,
+    pub(crate) sockets: GatewaySockets,
     pub(crate) books: &'b mut Books,
     pub(crate) news: News,
     // The state that a reload is compared with: the settings, the numbers that names have, and what control lines hold.
@@ -101,9 +89,9 @@ impl Reactor<'_> {
             alloc: self.alloc,
             settings: &self.settings,
             books: &*self.books,
-            doorways: &self.doorways,
-            uplink: self.uplink.as_ref(),
-            far_end: self.far_end.as_ref(),
+            doorways: &self.sockets.doorways,
+            uplink: self.sockets.uplink.as_ref(),
+            far_end: self.sockets.far_end.as_ref(),
         }
     }
 
@@ -116,8 +104,8 @@ impl Reactor<'_> {
         let mut events = Events::with_capacity(self.alloc, EVENTS)?;
         let mut pause = Some(Duration::from_millis(0));
         for _ in rt.forever() {
-            self.poll.poll(&mut events, pause)?;
-            self.note_all(&events);
+            self.sockets.poll.poll(&mut events, pause)?;
+            self.sockets.note_all(&events);
             let now = Instant::now(rt)?;
             let rest = self.round(rt, path, now);
             if let Some(left) = self.end(rt, now) {
@@ -128,65 +116,6 @@ impl Reactor<'_> {
         unreachable!()
     }
 
-    // Notes what is ready.
-    fn note_all(&mut self, events: &Events) {
-        for event in events {
-            self.note(event);
-        }
-    }
-
-    fn note(&mut self, event: &Event) {
-        match self.sources.get(event.token()) {
-            None | Some(Source::Disk) => (),
-            Some(Source::Uplink) => self.note_uplink(event),
-            Some(Source::Downlink | Source::DownlinkConnection) => self.note_far_end(event.token()),
-            Some(Source::Input) => self.input.note(),
-            Some(Source::ControlListener) => self.controls.note_listener(),
-            Some(Source::Port(port)) => self.doorways.note_port(port),
-            Some(Source::Sender { port, key }) => {
-                self.doorways.note_sender(port, key, event.is_read_closed())
-            }
-            Some(Source::Control(key)) => {
-                self.controls
-                    .note(key, event.is_readable(), event.is_writable())
-            }
-            Some(Source::WebListener) => self.note_web_listener(),
-            Some(Source::WebClient(key)) => self.note_web(key, event),
-        }
-    }
-
-    fn note_web_listener(&mut self) {
-        if let Some(web) = &mut self.web {
-            web.note_listener();
-        }
-    }
-
-    fn note_web(&mut self, key: usize, event: &Event) {
-        if let Some(web) = &mut self.web {
-            web.note(key, event.is_readable(), event.is_writable());
-        }
-    }
-
-    fn note_uplink(&mut self, event: &Event) {
-        if let Some(uplink) = &mut self.uplink {
-            uplink.note(event.is_readable(), event.is_writable());
-        }
-    }
-
-    fn note_far_end(&mut self, token: Token) {
-        let is_listener = self.sources.get(token) == Some(Source::Downlink);
-        match &mut self.far_end {
-            None => (),
-            Some(far_end) => {
-                if is_listener {
-                    far_end.note();
-                } else {
-                    far_end.note_connection(token);
-                }
-            }
-        }
-    }
-
     // Does what is at hand.
     fn round<R: Files<File = File> + Net + Clock + Wait + Eprint>(
         &mut self,
@@ -195,13 +124,15 @@ impl Reactor<'_> {
         now: Instant,
     ) -> Rest {
         self.books.credit(now);
-        let mut is_busy = self.accept(rt, now);
+        let mut is_busy = self.sockets.accept(rt, self.alloc, &mut self.news, now);
         is_busy |= self.fill();
         self.make_turns();
-        self.close_over(rt);
+        self.sockets.close_over(rt, &mut self.news);
         is_busy |= self.write_text(rt, now);
-        is_busy |= self.send(rt, now);
-        is_busy |= self.receive(rt);
+        is_busy |= self
+            .sockets
+            .send(rt, self.books.transit(), &mut self.news, now);
+        is_busy |= self.sockets.receive(rt, &mut self.news);
         is_busy |= self.obey(rt, path, now);
         is_busy |= self.serve_web(rt, now);
         is_busy |= self.go_on(rt, now);
@@ -215,7 +146,7 @@ impl Reactor<'_> {
     fn rest(&self, is_busy: bool) -> Rest {
         if is_busy {
             Rest::Some
-        } else if self.uplink.is_none() || !self.books.can_turn() {
+        } else if self.sockets.uplink.is_none() || !self.books.can_turn() {
             Rest::Nothing
         } else if self.books.is_allowed() {
             Rest::Some
@@ -224,46 +155,23 @@ impl Reactor<'_> {
         }
     }
 
-    fn accept<R: Clock + Eprint>(&mut self, rt: &R, now: Instant) -> bool {
-        let registry = self.poll.registry();
-        let (alloc, sources, news) = (self.alloc, &mut self.sources, &mut self.news);
-        let ports = self
-            .doorways
-            .accept(rt, alloc, registry, sources, news, now);
-        let controls = self
-            .controls
-            .accept(rt, alloc, registry, sources, news, now);
-        let frames = match &mut self.far_end {
-            None => false,
-            Some(far_end) => far_end.accept(rt, alloc, registry, sources, news, now),
-        };
-        ports || controls || frames
-    }
-
-    // Closes the connections and the ports of tenants that are over.
-    fn close_over<R: Clock + Eprint>(&mut self, rt: &R) {
-        let registry = self.poll.registry();
-        self.doorways
-            .close_over(rt, registry, &mut self.sources, &mut self.news);
-    }
-
     // Takes packets, unless the end has begun. Without an uplink they are read and dropped.
     fn fill(&mut self) -> bool {
         if !matches!(self.ending, Ending::No) {
             return false;
         }
-        if self.uplink.is_none() {
-            return self.doorways.discard();
+        if self.sockets.uplink.is_none() {
+            return self.sockets.doorways.discard();
         }
         match self.books.book() {
             None => false,
-            Some(book) => self.doorways.fill(self.alloc, book),
+            Some(book) => self.sockets.doorways.fill(self.alloc, book),
         }
     }
 
     // Makes turns, until 64 KiB are scheduled. After each the buffer of the flow that was sent is filled up.
     fn make_turns(&mut self) {
-        if self.uplink.is_none() {
+        if self.sockets.uplink.is_none() {
             return;
         }
         let mut scheduled: u32 = 0;
@@ -286,7 +194,7 @@ impl Reactor<'_> {
             return;
         }
         if let Some(book) = self.books.book() {
-            self.doorways.refill(self.alloc, flow, book);
+            self.sockets.doorways.refill(self.alloc, flow, book);
         }
     }
 
@@ -298,35 +206,6 @@ impl Reactor<'_> {
             self.news.tell_disk(rt, self.books);
         }
         lacked && !self.books.lacks_text() || was_stalled && !self.books.is_stalled()
-    }
-
-    // Dials the uplink, and gives it what may go.
-    fn send<R: Net + Clock + Eprint>(&mut self, rt: &R, now: Instant) -> bool {
-        let Some(uplink) = &mut self.uplink else {
-            return false;
-        };
-        let registry = self.poll.registry();
-        let dialled = uplink.tick(rt, registry, self.uplink_token, now);
-        self.news.tell_uplink(rt, dialled, uplink);
-        let work = uplink.work(self.books.transit(), now);
-        self.news.tell_uplink(rt, work, uplink);
-        match work {
-            Work::Busy | Work::Connected => true,
-            Work::Idle | Work::Lost | Work::Unreachable => false,
-        }
-    }
-
-    // Gives the packets that came by the downlink to their tenants.
-    fn receive<R: Clock + Eprint>(&mut self, rt: &R) -> bool {
-        match &mut self.far_end {
-            None => false,
-            Some(far_end) => far_end.take(
-                rt,
-                &mut self.doorways,
-                &mut self.sources,
-                &mut self.news,
-            ),
-        }
     }
 
     // Goes on with the close of a book.
@@ -346,7 +225,7 @@ impl Reactor<'_> {
 
     // Goes on with the end. Returns what was left once it is over.
     fn end<R: Clock + Wait + Eprint>(&mut self, rt: &R, now: Instant) -> Option<Left> {
-        if self.input.drain() {
+        if self.sockets.input.drain() {
             self.begin_end(now);
         }
         match self.ending {
@@ -407,15 +286,9 @@ impl Reactor<'_> {
         Duration::from_secs(self.grace).saturating_sub(now.saturating_duration_since(since))
     }
 
-    /// Removes the files of Unix sockets.
-    pub(crate) fn remove_files<R: Files>(&self, rt: &R) {
-        self.doorways.remove_files(rt);
-        remove_file(rt, &self.control_address);
-    }
-
     // The time in which nothing has to be done, if no source is ready before. `None` is for ever.
     fn pause(&self, rest: Rest, now: Instant) -> Option<Duration> {
-        let mut pause = match &self.uplink {
+        let mut pause = match &self.sockets.uplink {
             None => None,
             Some(uplink) => uplink.pause(now),
         };
@@ -424,11 +297,15 @@ impl Reactor<'_> {
             Rest::Paced => pause = shorter(pause, Duration::from_millis(1)),
             Rest::Nothing => (),
         }
-        let far_end = self.far_end.as_ref().and_then(|far_end| far_end.due());
+        let far_end = self
+            .sockets
+            .far_end
+            .as_ref()
+            .and_then(|far_end| far_end.due());
         for at in [
             self.books.due(),
-            self.doorways.due(),
-            self.controls.due(),
+            self.sockets.doorways.due(),
+            self.sockets.controls.due(),
             far_end,
         ] {
             if let Some(at) = at {

@@ -1,8 +1,8 @@
 //! The run of a gateway, from its sockets to what was left.
 
 use crate::reactor::{Ending, Options, Reactor};
-use crate::start::Ground;
 use share_disk::{Folder, OpenText};
+use share_gateway_sockets::GatewaySockets;
 use share_messages::Messages;
 use share_news::{News, NotRun};
 use share_reload::{ControlHolds, Roster};
@@ -35,16 +35,16 @@ pub fn run<R: SystemFiles + Net + Clock + Wait + Threads + Sync + Eprint>(
     first: FirstBook,
     options: Options,
 ) -> Result<Left, NotRun> {
-    let ground = Ground::open(rt, alloc, &settings, options.until_eof)?;
+    let sockets = GatewaySockets::open(rt, alloc, &settings, options.until_eof)?;
     let FirstBook { folder, number } = first;
     match begin(rt, alloc, &settings, &folder, number) {
         Err(fault) => {
-            ground.remove_files(rt);
-            drop(ground);
+            sockets.remove_files(rt);
+            drop(sockets);
             Err(no_book(alloc, &folder, number, fault))
         }
         Ok(text) => serve(
-            rt, alloc, path, settings, &folder, number, text, ground, options,
+            rt, alloc, path, settings, &folder, number, text, sockets, options,
         ),
     }
 }
@@ -82,15 +82,15 @@ fn serve<R: SystemFiles + Net + Clock + Wait + Threads + Sync + Eprint>(
     folder: &Folder,
     number: u64,
     text: OpenText,
-    ground: Ground,
+    sockets: GatewaySockets,
     options: Options,
 ) -> Result<Left, NotRun> {
-    let mut ground = ground;
-    let waker = ground.waker()?;
+    let mut sockets = sockets;
+    let waker = sockets.waker()?;
     let running = Running {
         alloc,
         path,
-        ground,
+        sockets,
         options,
     };
     write_while(rt, alloc, folder, text, &waker, move |queue| {
@@ -103,7 +103,7 @@ fn serve<R: SystemFiles + Net + Clock + Wait + Threads + Sync + Eprint>(
 struct Running<'a> {
     alloc: Global,
     path: &'a str,
-    ground: Ground,
+    sockets: GatewaySockets,
     options: Options,
 }
 
@@ -114,12 +114,12 @@ impl<R: Files<File = File> + Net + Clock + Wait + Eprint> UseBooks<R, Result<Lef
         let Running {
             alloc,
             path,
-            ground,
+            sockets,
             options,
         } = self;
-        let mut reactor = reactor_of(alloc, settings, books, ground, options)?;
+        let mut reactor = reactor_of(alloc, settings, books, sockets, options)?;
         let left = reactor.run(rt, path);
-        reactor.remove_files(rt);
+        reactor.sockets.remove_files(rt);
         drop(reactor);
         Ok(left?)
     }
@@ -138,35 +138,14 @@ fn reactor_of<'b>(
     alloc: Global,
     settings: Settings,
     books: &'b mut Books,
-    ground: Ground,
+    sockets: GatewaySockets,
     options: Options,
 ) -> Result<Reactor<'b>, NotRun> {
     let roster = roster_of(alloc, &settings)?;
     let holds = ControlHolds::new(alloc, &settings.plan)?;
-    let Ground {
-        poll,
-        sources,
-        doorways,
-        controls,
-        control_address,
-        web,
-        uplink,
-        uplink_token,
-        far_end,
-        input,
-    } = ground;
     Ok(Reactor {
         alloc,
-        poll,
-        sources,
-        doorways,
-        controls,
-        control_address,
-        web,
-        uplink,
-        uplink_token,
-        far_end,
-        input,
+        sockets,
         books,
         news: News::new(Messages::new(alloc, options.is_quiet)),
         settings,

@@ -12,19 +12,7 @@ impl Reactor<'_> {
         rt: &R,
         now: Instant,
     ) -> bool {
-        let registry = self.poll.registry();
-        let Some(web) = &mut self.web else {
-            return false;
-        };
-        web.accept(
-            rt,
-            self.alloc,
-            registry,
-            &mut self.sources,
-            &mut self.news,
-            now,
-        );
-        let bound = web.bound();
+        let bound = self.sockets.accept_web(rt, self.alloc, &mut self.news, now);
         let mut is_busy = false;
         for key in 0..bound {
             is_busy |= self.serve_client(rt, key, now);
@@ -34,25 +22,25 @@ impl Reactor<'_> {
 
     // Reads from a connection, answers it, and sends to it.
     fn serve_client<R: Files<File = File>>(&mut self, rt: &R, key: usize, now: Instant) -> bool {
-        let Some(web) = &mut self.web else {
+        let Some(web) = &mut self.sockets.web else {
             return false;
         };
         let text = match web.read(key, now) {
             None => None,
             Some(request) => Some(self.parts().answer_to(rt, request)),
         };
-        let Some(web) = &mut self.web else {
+        let Some(web) = &mut self.sockets.web else {
             return false;
         };
         if let Some(text) = text {
             web.answer(key, text);
         }
-        web.send(&mut self.sources, key)
+        web.send(&mut self.sockets.sources, key)
     }
 
     /// The time in which nothing has to be done for web connections. `None` is for ever.
     pub(crate) fn web_pause(&self, now: Instant) -> Option<Duration> {
-        match &self.web {
+        match &self.sockets.web {
             None => None,
             Some(web) => web.pause(now),
         }

@@ -1,10 +1,9 @@
-//! The sockets of a gateway: how they are opened, and how their files are removed.
+//! The sockets of a gateway, how they are opened, and how their files are removed.
 
-use crate::reactor::Reactor;
 use mio::{Poll, Registry, Token, Waker};
 use share_doorways::{
     Doorways, PortAddress, Source, Sources, address_of_control, listen, not_opened, open_doors,
-    open_port, remove_file, token_of,
+    remove_file, token_of,
 };
 use share_listeners::{Controls, FarEnd, Input, Web};
 use share_news::NotRun;
@@ -16,19 +15,45 @@ use std::fs::Files;
 use std::net::Net;
 use std::time::{Clock, Instant};
 
-/// The parts of a gateway before its first book begins: its sockets.
-#[derive(Drop)]
-pub(crate) struct Ground {
-    pub(crate) poll: Poll,
-    pub(crate) sources: Sources,
-    pub(crate) doorways: Doorways,
-    pub(crate) controls: Controls,
-    pub(crate) control_address: PortAddress,
-    pub(crate) web: Option<Web>,
-    pub(crate) uplink: Option<Uplink>,
+/// The sockets of a gateway, and the poll that watches them.
+pub struct GatewaySockets {
+    pub poll: Poll,
+    pub sources: Sources,
+    pub doorways: Doorways,
+    pub controls: Controls,
+    control_address: PortAddress,
+    pub web: Option<Web>,
+    pub uplink: Option<Uplink>,
     pub(crate) uplink_token: Token,
-    pub(crate) far_end: Option<FarEnd>,
-    pub(crate) input: Input,
+    pub far_end: Option<FarEnd>,
+    pub input: Input,
+}
+
+// This is written out so that no crate above proves how each part is dropped.
+impl Drop for GatewaySockets {
+    fn drop(self) {
+        let GatewaySockets {
+            poll,
+            sources,
+            doorways,
+            controls,
+            control_address,
+            web,
+            uplink,
+            uplink_token: _,
+            far_end,
+            input,
+        } = self;
+        drop(poll);
+        drop(sources);
+        drop(doorways);
+        drop(controls);
+        drop(control_address);
+        drop(web);
+        drop(uplink);
+        drop(far_end);
+        drop(input);
+    }
 }
 
 // Listens for control connections.
@@ -99,14 +124,14 @@ fn open_input(poll: &Poll, sources: &mut Sources, until_eof: bool) -> Result<Inp
     Ok(Input::watched(poll.registry(), token))
 }
 
-impl Ground {
+impl GatewaySockets {
     /// Opens the sockets of a gateway. If that fails, the files that were made of Unix sockets are removed.
-    pub(crate) fn open<R: Files + Net + Clock>(
+    pub fn open<R: Files + Net + Clock>(
         rt: &R,
         alloc: Global,
         settings: &Settings,
         until_eof: bool,
-    ) -> Result<Ground, NotRun> {
+    ) -> Result<GatewaySockets, NotRun> {
         let mut sources = Sources::new(alloc);
         let mut doorways = Doorways::new(alloc)?;
         let uplink = uplink_of(settings, Instant::now(rt)?);
@@ -124,7 +149,7 @@ impl Ground {
             settings,
             &control_address,
         ) {
-            Ok((controls, web)) => Ok(Ground {
+            Ok((controls, web)) => Ok(GatewaySockets {
                 poll,
                 sources,
                 doorways,
@@ -144,13 +169,13 @@ impl Ground {
     }
 
     /// The waker of the loop, for when the disk has written.
-    pub(crate) fn waker(&mut self) -> Result<Waker, NotRun> {
+    pub fn waker(&mut self) -> Result<Waker, NotRun> {
         let token = token_of(&mut self.sources, Source::Disk)?;
         Ok(Waker::new(self.poll.registry(), token)?)
     }
 
     /// Removes the files of Unix sockets.
-    pub(crate) fn remove_files<R: Files>(&self, rt: &R) {
+    pub fn remove_files<R: Files>(&self, rt: &R) {
         self.doorways.remove_files(rt);
         remove_file(rt, &self.control_address);
     }
@@ -183,20 +208,5 @@ fn open_all<R: Files + Net>(
             drop(web);
             Err(fault)
         }
-    }
-}
-
-impl Reactor<'_> {
-    /// Opens a port of the tenant with this door while the gateway runs. Returns the key of the port.
-    pub(crate) fn open_port<R: Files + Net>(
-        &mut self,
-        rt: &R,
-        door: usize,
-        address: &PortAddress,
-        mode: u32,
-    ) -> Result<usize, NotRun> {
-        let registry = self.poll.registry();
-        let (alloc, sources, doorways) = (self.alloc, &mut self.sources, &mut self.doorways);
-        open_port(rt, alloc, registry, sources, doorways, door, address, mode)
     }
 }

@@ -17,15 +17,23 @@ use std::time::{Clock, Instant};
 
 /// The sockets of a gateway, and the poll that watches them.
 pub struct GatewaySockets {
+    /// The poll, with which each socket is registered under the token of its source.
     pub poll: Poll,
+    /// The source of each token.
     pub sources: Sources,
+    /// The ports, with the connections to them, and a door for each tenant.
     pub doorways: Doorways,
+    /// The listener of control connections, and those that are open.
     pub controls: Controls,
     control_address: PortAddress,
+    /// The web listener and its connections, if the settings ask for it.
     pub web: Option<Web>,
+    /// The uplink, if the settings have one.
     pub uplink: Option<Uplink>,
     pub(crate) uplink_token: Token,
+    /// The downlink, if the settings have one.
     pub far_end: Option<FarEnd>,
+    /// Standard input, whose end is awaited if it is to end the gateway.
     pub input: Input,
 }
 

@@ -1,6 +1,6 @@
 # stridelink: 'make help' lists what can be made. The toolchain's command rt has to be on the PATH.
 
-# How many jobs each proof of 'make run' has; .ci/prove chooses if it is empty.
+# The JOBS of .ci/prove, which chooses if it is empty.
 JOBS ?=
 
 SOURCES := crates.txt $(shell find crates -name '*.rt' -o -name '*.antt' | grep -v /out/)
@@ -20,7 +20,7 @@ TOOL_PACKAGES := mandoc man-db tshark gnuplot-nox python3 python3-prometheus-cli
 help:
 	@echo 'make try         runs an example, with nothing proved'
 	@echo 'make demo        plays a gateway with four tenants in this terminal, with nothing proved'
-	@echo 'make run         proves and builds the program of scripts and bills, and runs the example; JOBS=N for each proof'
+	@echo 'make run         proves and builds the program of scripts and bills, and runs the example; JOBS: .ci/prove'
 	@echo 'make serve       proves and builds that of links too, and plays a session over sockets'
 	@echo 'make build       proves and builds these two, bin/stridelink-script and bin/stridelink-link'
 	@echo 'make gateway     proves and builds bin/stridelink-gateway'

@@ -21,7 +21,7 @@ pub struct GatewaySockets {
     pub poll: Poll,
     /// The source of each token.
     pub sources: Sources,
-    /// The ports, with the connections to them, and a door for each tenant.
+    /// The ports, and a door for each tenant.
     pub doorways: Doorways,
     /// The listener of control connections, and those that are open.
     pub controls: Controls,

@@ -110,7 +110,7 @@ test:
 	@echo 'the gate: every proof from nothing, the edits that must fail, the tests and the program; more than an hour' >&2
 	.ci/layers
 	.ci/kit
-	.ci/costs record .ci/rt ci
+	RT_JOBS=$$(.ci/jobs) .ci/costs record .ci/rt ci
 	.ci/costs record --more .ci/edits --named --built
 	.ci/costs record --more .ci/memory
 	.ci/costs record --more .ci/places

@@ -187,7 +187,7 @@ def clients_reset_while_the_link_waits(run):
     first, second = server.control(), server.control()
     second.fund()
     # More than the buffers of a flow and of a connection take.
-    gone, some = packets("a", 0, 16000, 1000), packets("a", 1, 100, 100)
+    gone, some = packets("a", 0, 10000 + most_received() // 1000, 1000), packets("a", 1, 100, 100)
     flooding, stays = server.ingress(), server.ingress()
     fill(flooding, records(gone))
     first.send(b"mkcur x\nreport\n" * 100)
@@ -200,6 +200,12 @@ def clients_reset_while_the_link_waits(run):
     stays.close()
     server.ends()
     check(server, peer, [("part", gone), ("whole", some)])
+
+
+def most_received():
+    """The most bytes that the system keeps for a connection from which its program does not read."""
+    with open("/proc/sys/net/ipv4/tcp_rmem", encoding="ascii") as sizes:
+        return int(sizes.read().split()[2])
 
 
 def fill(connection, data):

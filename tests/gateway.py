@@ -20,6 +20,7 @@ import subprocess
 import sys
 import threading
 import time
+import tomllib
 
 sys.dont_write_bytecode = True
 
@@ -29,7 +30,7 @@ from gatewaying import (COLUMNS, GATEWAY, HEADER, MOST_CONNECTIONS, MOST_CONTROL
                         Play, Tenant, address_of, connect, frame_bytes, free_port, packet, records, run_gateway,
                         run_program)
 from measured import WINDOW, Flood, check_windows, judged_alone
-from serving import (LOOPBACK, PATIENCE, Failure, ends_by_itself, expect, expect_equal, record, reset, try_cases,
+from serving import (LOOPBACK, PATIENCE, TOP, Failure, ends_by_itself, expect, expect_equal, record, reset, try_cases,
                      wait_for)
 
 # Seconds for a case, and for all of them.
@@ -118,6 +119,38 @@ def checks(run):
             expect_equal((status, out), (1, ""), f"the status at {new}")
             expect(errors.startswith(file + fault) and errors.count("\n") == 1, f"{new}: {errors}, wanted {fault}")
     expect_equal(os.listdir(gateway.folder), [], "files of the folder")
+
+
+def wrong_files(run):
+    """A file has the first fault of each change of tests/settings/faults.toml, and of each plan."""
+    settings = os.path.join(TOP, "tests", "settings")
+    with open(os.path.join(settings, "faults.toml"), "rb") as source:
+        rows = tomllib.load(source)
+    with open(os.path.join(settings, "gateway.toml"), encoding="utf-8") as source:
+        good = source.read()
+    with open(os.path.join(settings, "plan.toml"), encoding="utf-8") as source:
+        sections = source.read()
+    file = os.path.join(run.folder(), "gateway.toml")
+    expect_fault(file, {}, good)
+    for row in rows["change"]:
+        expect_equal(good.count(row["old"]), 1, f"the number of texts that {row} changes")
+        expect_fault(file, row, good.replace(row["old"], row["new"]))
+    for row in rows["plan"]:
+        expect_fault(file, row, f"{sections}\n{row['text']}")
+
+
+def expect_fault(file, row, text):
+    """Checks that a file of this text is good, or has the fault of a row, which names its line if it is not TOML."""
+    with open(file, "w", encoding="utf-8") as target:
+        target.write(text)
+    status, out, errors = run_gateway([file, "--check"])
+    if "line" in row:
+        expect(errors.startswith(f"{file}:{row['line']}: ") and errors.count("\n") == 1, f"{row}: {errors}")
+        expect_equal((status, out), (1, ""), f"{row}")
+    elif "fault" in row:
+        expect_equal((status, out, errors), (1, "", f"{file}: {row['fault']}\n"), f"{row}")
+    else:
+        expect_equal((status, out, errors), (0, f"{file}: ok\n", ""), f"{row}")
 
 
 def addresses_in_use(run):
@@ -1354,8 +1387,8 @@ def slow_ones(run):
     run.side_by_side([(period,), (far_end_goes,), (far_end_does_not_answer,)], LIMIT)
 
 
-CASES = (checks, addresses_in_use, second_gateway, folder_without_leave, orders, status, status_under_load,
-         too_many_connections, too_many_controls, replies_not_read, asked, reloads, reload_refused,
+CASES = (checks, wrong_files, addresses_in_use, second_gateway, folder_without_leave, orders, status,
+         status_under_load, too_many_connections, too_many_controls, replies_not_read, asked, reloads, reload_refused,
          reload_under_load, rotations, lives, whole, many_rows, rotations_without_a_pause, shares, rate,
          one_against_eight, far_end_away, far_end_writes, far_end_reads_nothing, wrong_records, slow_bytes, sizes,
          hung_up, resets, stopped_and_continued, unix_sockets, unix_modes_reloaded, until_eof, grace_is_over,

@@ -6,7 +6,6 @@ mod files;
 mod holds;
 mod loading;
 mod origins;
-mod plans;
 mod rosters;
 mod rows;
 mod sections;

@@ -1,46 +1,15 @@
-//! Files: the example, the smallest one, and what is wrong with changed ones.
+//! Files: the example, the smallest one, and one with other values. `tests/gateway.py` has wrong ones.
 
 use super::assertions::{holds, same};
-use super::rows::{EXAMPLE, FILE, Row, SHAPES, SMALL, TWICE, VALUES, WEB};
-use super::settings::changed;
+use super::changes::FILE;
+use super::rows::{EXAMPLE, SMALL};
 use share_base::Name;
-use share_config::{ConfigFault, read_settings};
+use share_config::read_settings;
 use share_gateway::{Grant, Tenant};
 use share_settings::{BookText, Listener, Peer, Port, Settings};
 use std::alloc::Global;
 use std::net::SocketAddr;
 use std::process::Abort;
-
-// The fault of the changed file is the row's.
-fn has_fault(rt: &impl Abort, alloc: Global, row: Row, fault: &ConfigFault) {
-    same(rt, row, fault.line(), row.line);
-    let said = format!(in alloc; "{fault}").expect(rt, "memory");
-    let is_said = row.fault.is_empty() || said.as_str() == row.fault;
-    assert!(rt; is_said, "{row:?}: {said}");
-}
-
-fn is_refused(rt: &impl Abort, alloc: Global, row: Row) {
-    holds(rt, row, FILE.contains(row.old));
-    let text = changed(alloc, FILE, row.old, row.new).expect(rt, "memory");
-    match read_settings(alloc, text.as_str()) {
-        Err(fault) => has_fault(rt, alloc, row, &fault),
-        Ok(_) => holds(rt, row, false),
-    }
-}
-
-fn are_refused(rt: &impl Abort, alloc: Global, rows: &[Row]) {
-    for row in rows {
-        is_refused(rt, alloc, *row);
-    }
-}
-
-#[test]
-fn wrong_files_are_refused(rt: HostRuntime) {
-    are_refused(&rt, rt.alloc(), VALUES.as_slice());
-    are_refused(&rt, rt.alloc(), SHAPES.as_slice());
-    are_refused(&rt, rt.alloc(), TWICE.as_slice());
-    are_refused(&rt, rt.alloc(), WEB.as_slice());
-}
 
 fn name(rt: &impl Abort, text: &str) -> Name {
     Name::read(text.as_bytes()).expect(rt, "a name")
@@ -187,10 +156,10 @@ fn what_a_file_leaves_out_has_its_default(rt: HostRuntime) {
 }
 
 #[test]
-fn a_file_in_which_nothing_is_wrong_is_read(rt: HostRuntime) {
-    let settings = read_settings(rt.alloc(), FILE).expect(&rt, "the file that the rows change");
+fn other_values_are_read(rt: HostRuntime) {
+    let settings = read_settings(rt.alloc(), FILE).expect(&rt, "a file");
     let tenant = settings.plan.tenants().get(1).expect(&rt, "a tenant");
-    same(&rt, "flow", tenant.flow, 4);
+    same(&rt, "flow", tenant.flow, 3);
     let ports = settings.ports.first().expect(&rt, "ports of a tenant");
     same(&rt, "mode of ports", ports.mode, 0o640);
 }

@@ -82,6 +82,14 @@ fn shorter(pause: Option<Duration>, other: Duration) -> Option<Duration> {
     }
 }
 
+// The shorter of a pause and the time until a moment, if there is one.
+fn until(pause: Option<Duration>, at: Option<Instant>, now: Instant) -> Option<Duration> {
+    match at {
+        Some(at) => shorter(pause, at.saturating_duration_since(now)),
+        None => pause,
+    }
+}
+
 impl Reactor<'_> {
     /// The parts of the gateway that answers are about.
     pub(crate) fn parts(&self) -> Parts<'_> {
@@ -288,34 +296,35 @@ impl Reactor<'_> {
 
     // The time in which nothing has to be done, if no source is ready before. `None` is for ever.
     fn pause(&self, rest: Rest, now: Instant) -> Option<Duration> {
-        let mut pause = match &self.sockets.uplink {
-            None => None,
-            Some(uplink) => uplink.pause(now),
-        };
-        match rest {
+        let pause = match rest {
             Rest::Some => return Some(Duration::from_millis(0)),
-            Rest::Paced => pause = shorter(pause, Duration::from_millis(1)),
-            Rest::Nothing => (),
+            Rest::Paced => shorter(self.uplink_pause(now), Duration::from_millis(1)),
+            Rest::Nothing => self.uplink_pause(now),
+        };
+        let pause = until(pause, self.books.due(), now);
+        let pause = match self.web_pause(now) {
+            Some(left) => shorter(pause, left),
+            None => pause,
+        };
+        self.pause_at_end(self.pause_of_sources(pause, now), now)
+    }
+
+    // The time for which the uplink has nothing to do. `None` is for ever.
+    fn uplink_pause(&self, now: Instant) -> Option<Duration> {
+        match &self.sockets.uplink {
+            Some(uplink) => uplink.pause(now),
+            None => None,
         }
-        let far_end = self
-            .sockets
-            .far_end
-            .as_ref()
-            .and_then(|far_end| far_end.due());
-        for at in [
-            self.books.due(),
-            self.sockets.doorways.due(),
-            self.sockets.controls.due(),
-            far_end,
-        ] {
-            if let Some(at) = at {
-                pause = shorter(pause, at.saturating_duration_since(now));
-            }
+    }
+
+    // The pause, or the time until a connection is due.
+    fn pause_of_sources(&self, pause: Option<Duration>, now: Instant) -> Option<Duration> {
+        let pause = until(pause, self.sockets.doorways.due(), now);
+        let pause = until(pause, self.sockets.controls.due(), now);
+        match &self.sockets.far_end {
+            Some(far_end) => until(pause, far_end.due(), now),
+            None => pause,
         }
-        if let Some(left) = self.web_pause(now) {
-            pause = shorter(pause, left);
-        }
-        self.pause_at_end(pause, now)
     }
 
     // The pause, or what is left of the grace.

@@ -1,4 +1,4 @@
-//! Tests of links and their journals, over the public calls of these crates.
+//! Tests of links, their journals, scripts, reports and bills, over the public calls of these crates.
 #![tactic(auto)]
 
 #[cfg(test)]

@@ -5,6 +5,7 @@ mod assertions;
 mod base;
 mod flows;
 mod frame;
+mod ingress;
 mod ledger;
 mod model;
 mod steps;

@@ -29,7 +29,7 @@ struct Text {
     lines: &'static str,
 }
 
-const TEXTS: [Text; 2] = [
+static TEXTS: [Text; 2] = [
     Text {
         kind: TextKind::Whole,
         first: "audit 2\n",
@@ -188,7 +188,7 @@ struct AmendRow {
     refusal: Option<Refusal>,
 }
 
-const AMENDS: [AmendRow; 5] = [
+static AMENDS: [AmendRow; 5] = [
     AmendRow {
         name: "x",
         number: 1,

@@ -18,7 +18,7 @@ const FRAMES: &[u8; 36] =
     b"L\x02\x01\0\0\0\x01\0\0\0\0\0\0\0\x01\0\x01aL\x02\x01\0\0\0\x01\0\0\0\0\0\0\0\x02\0\x01b";
 
 /// A packet as long as packets can be.
-pub(super) const LONG: [u8; 9000] = [b'x'; 9000];
+pub(super) static LONG: [u8; 9000] = [b'x'; 9000];
 
 /// A change of the next book's plan by its name, its packets' lines, and the number of packets dropped.
 #[derive(Clone, Copy)]

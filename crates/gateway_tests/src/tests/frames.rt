@@ -15,7 +15,7 @@ enum Ends {
 
 /// Streams, the frames of each, the bytes of the payloads together, and its end. The frame is that of the payload `hi`,
 /// the first packet of flow 1, under tariff 1.
-const STREAMS: [(&[u8], usize, usize, Ends); 15] = [
+static STREAMS: [(&[u8], usize, usize, Ends); 15] = [
     (b"", 0, 0, Ends::More),
     (
         b"L\x02\x01\0\0\0\x01\0\0\0\0\0\0\0\x01\0\x02hi",
@@ -118,7 +118,7 @@ fn counted_in_two(
 #[test]
 fn streams_are_cut_at_each_byte(rt: HostRuntime) {
     streams_are_cut_into_frames();
-    for (stream, count, bytes, ends) in STREAMS {
+    for &(stream, count, bytes, ends) in &STREAMS {
         for at in 0..stream.len() + 1 {
             let (first, last) = stream.split_at(at.min(stream.len()));
             let got = counted_in_two(&rt, rt.alloc(), first, last);

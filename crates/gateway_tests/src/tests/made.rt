@@ -9,7 +9,8 @@ pub(super) fn named(rt: &impl Abort, text: &str) -> Name {
     Name::read(text.as_bytes()).expect(rt, "a name")
 }
 
-fn granted(rt: &impl Abort, alloc: Global, rows: &[(u64, &str)]) -> Vec<Grant> {
+/// Grants of these amounts and currencies.
+pub(super) fn granted(rt: &impl Abort, alloc: Global, rows: &[(u64, &str)]) -> Vec<Grant> {
     let mut grants = Vec::new(alloc);
     for at in 0..rows.len() {
         let grant = Grant {
@@ -22,17 +23,15 @@ fn granted(rt: &impl Abort, alloc: Global, rows: &[(u64, &str)]) -> Vec<Grant> {
 }
 
 fn currency(rt: &impl Abort, alloc: Global, grants: &[(u64, &str)]) -> Vec<Currency> {
-    let grants = granted(rt, alloc, grants);
-    let mut currencies = Vec::new(alloc);
-    let name = named(rt, "x");
-    currencies
-        .push(Currency { name, grants })
-        .expect(rt, "memory");
-    currencies
+    let currency = Currency {
+        name: named(rt, "x"),
+        grants: granted(rt, alloc, grants),
+    };
+    vec![in alloc; currency].expect(rt, "memory")
 }
 
-// A tenant with a buffer of 4 packets that is not held.
-fn tenant(name: Name, flow: u32, tariff: u64, grants: Vec<Grant>) -> Tenant {
+/// A tenant with a buffer of 4 packets that is not held.
+pub(super) fn tenant(name: Name, flow: u32, tariff: u64, grants: Vec<Grant>) -> Tenant {
     Tenant {
         name,
         flow,
@@ -53,13 +52,11 @@ fn pair(rt: &impl Abort, alloc: Global, flow: u32, tariff: u64, held: bool) -> V
         granted(rt, alloc, &[(2, "x")]),
     );
     second.held = held;
-    let mut tenants = Vec::new(alloc);
-    tenants.push(first).expect(rt, "memory");
-    tenants.push(second).expect(rt, "memory");
-    tenants
+    vec![in alloc; first, second].expect(rt, "memory")
 }
 
-fn planned(rt: &impl Abort, currencies: Vec<Currency>, tenants: Vec<Tenant>) -> Plan {
+/// A plan of these currencies and tenants.
+pub(super) fn planned(rt: &impl Abort, currencies: Vec<Currency>, tenants: Vec<Tenant>) -> Plan {
     Plan::new(currencies, tenants).ok().expect(rt, "a plan")
 }
 
@@ -108,23 +105,19 @@ fn funded(rt: &impl Abort, alloc: Global, tenants: Vec<Tenant>) -> Plan {
 pub(super) fn first_limited(rt: &impl Abort, alloc: Global) -> Plan {
     let mut second = tenant(named(rt, "b"), 2, 1, granted(rt, alloc, &[(2, "x")]));
     second.held = true;
-    let mut tenants = Vec::new(alloc);
-    tenants.push(first(rt, alloc, 1)).expect(rt, "memory");
-    tenants.push(second).expect(rt, "memory");
+    let tenants = vec![in alloc; first(rt, alloc, 1), second].expect(rt, "memory");
     funded(rt, alloc, tenants)
 }
 
 /// The second tenant without the first.
 pub(super) fn second_alone(rt: &impl Abort, alloc: Global) -> Plan {
     let second = tenant(named(rt, "b"), 2, 1, granted(rt, alloc, &[(2, "x")]));
-    let mut tenants = Vec::new(alloc);
-    tenants.push(second).expect(rt, "memory");
+    let tenants = vec![in alloc; second].expect(rt, "memory");
     funded(rt, alloc, tenants)
 }
 
 /// The first tenant alone, whose buffer holds 20 packets.
 pub(super) fn roomy(rt: &impl Abort, alloc: Global) -> Plan {
-    let mut tenants = Vec::new(alloc);
-    tenants.push(first(rt, alloc, 20)).expect(rt, "memory");
+    let tenants = vec![in alloc; first(rt, alloc, 20)].expect(rt, "memory");
     funded(rt, alloc, tenants)
 }

@@ -24,7 +24,7 @@ enum Step {
 }
 
 /// Steps, and after each the bytes that are ready and the number that have room.
-const STEPS: [(Step, &[u8], usize); 12] = [
+static STEPS: [(Step, &[u8], usize); 12] = [
     (Step::Put(FIRST), b"", 65518),
     (Step::Again, b"", 65518),
     (Step::Allow(2), b"L\x02", 65518),
@@ -90,7 +90,7 @@ fn frame_of(alloc: Global, value: u8, length: usize) -> Result<Vec<u8>, AllocErr
 }
 
 /// Lengths of frames that are put into an outbox, and whether each is taken.
-const FILLED: [(usize, bool); 13] = [
+static FILLED: [(usize, bool); 13] = [
     (LONGEST, true),
     (LONGEST, true),
     (LONGEST, true),

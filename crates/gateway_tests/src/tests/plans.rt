@@ -23,7 +23,7 @@ struct Row {
     lines: &'static str,
 }
 
-const ROWS: [Row; 3] = [
+static ROWS: [Row; 3] = [
     Row {
         what: "no gap, none held",
         flow: 2,

@@ -14,7 +14,7 @@ enum Ends {
 }
 
 /// Streams for the tenant `a`, the items of each, the bytes of the payloads together, and its end.
-const STREAMS: [(&[u8], usize, usize, Ends); 19] = [
+static STREAMS: [(&[u8], usize, usize, Ends); 19] = [
     (b"", 0, 0, Ends::More),
     (b"\x01a\0\x01a", 1, 1, Ends::More),
     (b"\x01a\0\x01a\x01a\0\x02b", 1, 1, Ends::More),
@@ -79,7 +79,7 @@ fn counted_in_two(
 #[test]
 fn streams_are_cut_at_each_byte(rt: HostRuntime) {
     streams_are_cut_into_records();
-    for (stream, items, bytes, ends) in STREAMS {
+    for &(stream, items, bytes, ends) in &STREAMS {
         for at in 0..stream.len() + 1 {
             let (first, last) = stream.split_at(at.min(stream.len()));
             let got = counted_in_two(&rt, rt.alloc(), first, last);

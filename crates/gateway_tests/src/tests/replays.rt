@@ -20,7 +20,7 @@ use std::process::Abort;
 const EVENTS: u64 = 131072;
 
 /// A packet of b whose frame is 717 bytes long.
-const LONG: [u8; 700] = [b'x'; 700];
+static LONG: [u8; 700] = [b'x'; 700];
 
 /// The answers to the lines of the book: those of its opening, and those of what happened in it.
 const ANSWERS: &str =

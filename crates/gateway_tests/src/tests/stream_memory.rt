@@ -18,7 +18,7 @@ enum Made {
     Frames,
 }
 
-const ALL: [Made; 3] = [Made::Outbox, Made::Records, Made::Frames];
+static ALL: [Made; 3] = [Made::Outbox, Made::Records, Made::Frames];
 
 // Why one is not made, if it is not.
 fn refusal(rt: &impl Abort, alloc: Global, made: Made) -> Option<Refusal> {
@@ -31,7 +31,7 @@ fn refusal(rt: &impl Abort, alloc: Global, made: Made) -> Option<Refusal> {
 
 #[test]
 fn streams_are_made_once_their_memory_is_found(rt: HostRuntime) {
-    for made in ALL {
+    for &made in &ALL {
         for request in 1..8u16 {
             let _no = asks!(rt.alloc(), request);
             let got = refusal(&rt, rt.alloc(), made);

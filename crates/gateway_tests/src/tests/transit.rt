@@ -11,7 +11,7 @@ use std::alloc::Global;
 use std::process::Abort;
 
 /// The frames of the first packet of b, `c`, and of those of a, `a` and `b`.
-const FRAMES: [&[u8; 18]; 3] = [
+static FRAMES: [&[u8; 18]; 3] = [
     b"L\x02\x01\0\0\0\x02\0\0\0\0\0\0\0\x01\0\x01c",
     b"L\x02\x01\0\0\0\x01\0\0\0\0\0\0\0\x01\0\x01a",
     b"L\x02\x01\0\0\0\x01\0\0\0\0\0\0\0\x02\0\x01b",

@@ -9,6 +9,9 @@ use std::alloc::Global;
 use std::fmt::Debug;
 use std::process::Abort;
 
+/// The question of this number and n more is whether more than n bytes were asked for since the mark.
+const LONGER: u16 = 8192;
+
 /// More requests than any call here makes.
 pub(super) const REQUESTS: u16 = 64;
 
@@ -34,6 +37,12 @@ pub(super) fn takes_none<R: Debug + Copy>(rt: &impl Abort, row: R, alloc: Global
     refuse(alloc, 1);
     let is_refused = Vec::<u8>::with_capacity(alloc, 1).is_err();
     same(rt, (row, "is steered"), was_refused(alloc), is_refused);
+}
+
+/// At most that many bytes were asked for since the mark.
+pub(super) fn asks_for_few<R: Debug + Copy>(rt: &impl Abort, row: R, alloc: Global, bytes: u16) {
+    let is_more = asks!(alloc, LONGER.saturating_add(bytes));
+    holds(rt, (row, "asks for no more"), !is_more);
 }
 
 /// Remembers the number of blocks held.

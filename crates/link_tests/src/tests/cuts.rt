@@ -26,7 +26,7 @@ struct Run {
     is_replayed: bool,
 }
 
-const RUNS: [Run; 3] = [
+static RUNS: [Run; 3] = [
     // Flows of 3, 2 and 1 tickets, as many packets, and cells of 1024.
     Run {
         ready: "1: mktkt 3 base = ticket 1; 1: mktkt 2 base = ticket 2; 1: mktkt 1 base = ticket 3; \
@@ -105,7 +105,7 @@ enum Then {
     GoesOn,
 }
 
-const THEN: [Then; 5] = [
+static THEN: [Then; 5] = [
     Then::Fails(Answer::Failed),
     Then::Fails(Answer::Accepted(0)),
     Then::IsDeclared,
@@ -278,7 +278,7 @@ fn is_cut(rt: &impl Abort, alloc: Global, run: &Run, case: Case) {
 fn frames_are_cut(rt: &impl Abort, alloc: Global, version: Version, run: &Run) {
     for (frames, frame) in run.frames.iter().enumerate() {
         for out in 0..length(version, *frame) {
-            for then in THEN {
+            for &then in &THEN {
                 let case = Case {
                     version,
                     frames,
@@ -373,7 +373,7 @@ fn goes_out_in(rt: &impl Abort, alloc: Global, run: &Run, version: Version, leng
 }
 
 /// In the header, up to its end, and in the payload; then in the header, over its end, and in the payload.
-const PARTS: [&[u32]; 2] = [
+static PARTS: [&[u32]; 2] = [
     &[3, 9, 1, 14, 1, 11, 2, 15, 1],
     &[3, 14, 1, 14, 1, 16, 2, 15, 1],
 ];
@@ -382,7 +382,7 @@ const PARTS: [&[u32]; 2] = [
 fn frames_go_out_in_pieces(rt: HostRuntime) {
     let alloc = rt.alloc();
     let [_, one, two] = &RUNS;
-    for (version, parts) in VERSIONS.into_iter().zip(PARTS) {
+    for (&version, &parts) in VERSIONS.iter().zip(&PARTS) {
         goes_out_in(&rt, alloc, two, version, parts);
         goes_out_in(&rt, alloc, two, version, &[1]);
         for k in 1..34 {

@@ -147,7 +147,7 @@ const FIELD_BY_FIELD: Run = Run {
         turn 8\nturn 2\nturn 2\nclose a\n",
 };
 
-const RUNS: [Run; 6] = [
+static RUNS: [Run; 6] = [
     EVERY_KIND,
     ONE_EVENT,
     TORN_PACKET,
@@ -157,7 +157,7 @@ const RUNS: [Run; 6] = [
 ];
 
 /// The answers without an event.
-const NO_EVENTS: [&str; 5] = [
+static NO_EVENTS: [&str; 5] = [
     "idle",
     "again",
     "no 20 Broken",
@@ -292,8 +292,8 @@ fn are_used(rt: &impl Abort, alloc: Global, version: Version) {
 #[test]
 fn new_links_and_journals_of_one_life_and_version_make_recorders(rt: HostRuntime) {
     let alloc = rt.alloc();
-    for one in VERSIONS {
-        for other in VERSIONS {
+    for &one in &VERSIONS {
+        for &other in &VERSIONS {
             do_not_agree(&rt, alloc, (4, 5), (one, other));
             if one != other {
                 do_not_agree(&rt, alloc, (4, 4), (one, other));

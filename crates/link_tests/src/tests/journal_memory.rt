@@ -38,7 +38,7 @@ const FULL: &str = "\
 /// for its packets, and the first one for the table of the flows. That is for the two parts of its index, the names,
 /// and the flows. The table of the currencies has as many parts: what is beside its names is empty, but is asked for
 /// too. That of the tickets has one. All parts of a full table grow.
-const GROWTHS: [(Option<&str>, &str, u16); 6] = [
+static GROWTHS: [(Option<&str>, &str, u16); 6] = [
     (None, "open a 4 1 = flow 1", 5),
     (None, "mkcur x = ok", 4),
     (None, "mktkt 10 base = ticket 1", 1),
@@ -72,7 +72,7 @@ fn is_refused_and_done(
 fn commands_are_recorded_once_their_memory_is_found(rt: HostRuntime) {
     let alloc = rt.alloc();
     let mut said = said(&rt, alloc);
-    for growth in GROWTHS {
+    for &growth in &GROWTHS {
         for request in 1..REQUESTS {
             mark(alloc);
             let refused = is_refused_and_done(&rt, alloc, &mut said, growth, request);
@@ -99,12 +99,12 @@ const BROUGHT: &str = "\
     turn 5 = wrote 1 1 5 part";
 
 /// The rest of a frame of each version, and the close of its flow.
-const WRITTEN: [&str; 2] = [
+static WRITTEN: [&str; 2] = [
     "turn 65535 = wrote 1 1 9 whole",
     "turn 65535 = wrote 1 1 14 whole",
 ];
 
-const CLOSED: [&str; 2] = ["close a = closed 1 0 14", "close a = closed 1 0 19"];
+static CLOSED: [&str; 2] = ["close a = closed 1 0 14", "close a = closed 1 0 19"];
 
 const TORN: &str = "\
     turn 65535 = idle; torn = idle; 2: unfund 2 = ok; 2: fund 3 flow a = ok; 3: send a 6869 = packet 1 2; \
@@ -211,7 +211,7 @@ fn parts_take_none(rt: &impl Abort, alloc: Global, said: &mut Said, place: usize
 
 /// One of these packets, which are too long to stand in their place, is sent, one is torn, one is dropped, and two are
 /// refused.
-const HELD: [&str; 2] = [
+static HELD: [&str; 2] = [
     "open a 2 1 = flow 1; mktkt 10 base = ticket 1; fund 1 flow a = ok; fill a 40 = packet 1 1; \
     fill a 40 = packet 1 2; fill a 40 = no 19 BufferFull; fill zz 40 = no 7 NoFlow; \
     turn 65535 = wrote 1 1 52 whole; turn 20 = wrote 1 2 20 part; torn = torn 1 2 20; fill a 40 = packet 1 3; \
@@ -223,7 +223,7 @@ const HELD: [&str; 2] = [
 ];
 
 /// A packet that is no event leaves nothing.
-const LATE: [&str; 2] = ["fill a 40 = no 2 Spent", "fill a 9000 = no 2 Spent"];
+static LATE: [&str; 2] = ["fill a 40 = no 2 Spent", "fill a 9000 = no 2 Spent"];
 
 // Memory of packets that were recorded is given back with the recorder.
 fn keeps_nothing(
@@ -256,7 +256,7 @@ fn recorders_take_no_more_memory_and_keep_nothing(rt: HostRuntime) {
         parts_take_none(&rt, alloc, &mut said, place);
         keeps_none(&rt, "a recorder", alloc);
     }
-    for ((version, rows), late) in VERSIONS.iter().zip(HELD).zip(LATE) {
+    for ((version, &rows), &late) in VERSIONS.iter().zip(&HELD).zip(&LATE) {
         keeps_nothing(&rt, alloc, &mut said, *version, rows, late);
     }
     drop(said);

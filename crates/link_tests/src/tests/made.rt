@@ -13,7 +13,7 @@ use std::process::Abort;
 /// A life that no rows spend.
 pub(super) const LIFE: u64 = 65536;
 
-pub(super) const VERSIONS: [Version; 2] = [Version::One, Version::Two];
+pub(super) static VERSIONS: [Version; 2] = [Version::One, Version::Two];
 
 /// A new link of a version.
 pub(super) fn linked<W: Drop, S: Rates + Drop>(

@@ -168,7 +168,7 @@ fn gives_its_parts(rt: &impl Abort, alloc: Global, tokens: &Tokens) {
 /// The commands that take memory, and the number of requests that each makes on a new link. A flow makes one for its
 /// ring and four for the table of flows. A currency makes four for the table of currencies, and a ticket one for that
 /// of tickets.
-const GROWING: [(&str, u16); 3] = [
+static GROWING: [(&str, u16); 3] = [
     ("open a 4 1 = flow 1", 5),
     ("mkcur x = ok", 4),
     ("mktkt 10 base = ticket 1", 1),
@@ -177,7 +177,7 @@ const GROWING: [(&str, u16); 3] = [
 // Each request of each of these commands is refused in turn, on a new link each. The next command takes the number that
 // the refused one would have taken.
 fn finds_memory_at_last(rt: &impl Abort, alloc: Global, said: &mut Said, tokens: &Tokens) {
-    for (row, requests) in GROWING {
+    for &(row, requests) in &GROWING {
         for request in 1..REQUESTS {
             let mut link = tokens.engine(rt, alloc, 64).expect(rt, "a link");
             let refused = is_refused(rt, alloc, said, &mut link, row, request);
@@ -319,7 +319,7 @@ enum Case {
     LongPayloads,
 }
 
-const CASES: [(Case, u64); 4] = [
+static CASES: [(Case, u64); 4] = [
     (Case::Packets, 64),
     (Case::Spent, 1),
     (Case::NoMemory, 64),
@@ -345,7 +345,7 @@ fn what_is_not_kept_is_dropped_and_calls_take_no_memory(rt: HostRuntime) {
     gives_its_writer(&rt, alloc, &tokens);
     gives_its_parts(&rt, alloc, &tokens);
     finds_memory_at_last(&rt, alloc, &mut said, &tokens);
-    for (case, life) in CASES {
+    for &(case, life) in &CASES {
         let mut link = tokens.engine(&rt, alloc, life).expect(&rt, "a link");
         plays(&rt, alloc, &mut said, &mut link, case);
         drop(link);

@@ -43,7 +43,7 @@ const FAILED: &str = "\
     turn 65535 = wrote 1 1 5 part; turn 65535 = torn 1 1 5; account 1 = 5";
 
 /// The answers of a writer, the rows that a session plays with it, and the bytes that it has then.
-const SESSIONS: [(&[Answer], &str, &[u8]); 4] = [
+static SESSIONS: [(&[Answer], &str, &[u8]); 4] = [
     (
         &[],
         THREE_FLOWS,
@@ -71,7 +71,7 @@ const SESSIONS: [(&[Answer], &str, &[u8]); 4] = [
 #[test]
 fn links_answer_as_worked(rt: HostRuntime) {
     let alloc = rt.alloc();
-    for (answers, rows, bytes) in SESSIONS {
+    for &(answers, rows, bytes) in &SESSIONS {
         let writer = scripted(&rt, alloc, answers);
         let mut link = linked(&rt, alloc, Four, Version::One, LIFE, writer);
         play(&rt, alloc, &mut link, rows);

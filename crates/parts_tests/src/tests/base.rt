@@ -13,7 +13,7 @@ use std::hash::{DefaultHasher, Hash, Hasher};
 use std::process::Abort;
 
 /// Bytes, and whether they spell a name.
-const NAMES: [(&[u8], bool); 17] = [
+static NAMES: [(&[u8], bool); 17] = [
     (b"a", true),
     (b"base", true),
     (b"z9_-", true),
@@ -34,7 +34,7 @@ const NAMES: [(&[u8], bool); 17] = [
 ];
 
 /// Two names and their order. The hashes of equal names are equal, and of these others differ.
-const ORDERS: [(&[u8], &[u8], Ordering); 6] = [
+static ORDERS: [(&[u8], &[u8], Ordering); 6] = [
     (b"a", b"a", Ordering::Equal),
     (b"a", b"aa", Ordering::Less),
     (b"b", b"aa", Ordering::Greater),
@@ -70,10 +70,10 @@ fn are_ordered(left: &[u8], right: &[u8], order: Ordering) -> bool {
 
 #[test]
 fn names_are_spelled_ordered_and_hashed(rt: HostRuntime) {
-    for (bytes, is_one) in NAMES {
+    for &(bytes, is_one) in &NAMES {
         same(&rt, bytes, is_name(bytes), is_one);
     }
-    for (left, right, order) in ORDERS {
+    for &(left, right, order) in &ORDERS {
         holds(&rt, (left, right), are_ordered(left, right, order));
     }
 }
@@ -110,7 +110,7 @@ fn makes(alloc: Global, made: Made, payload: &[u8]) -> Result<bool, Refusal> {
 const ROOM_AND_SIXTEEN: &[u8; HEADER_ROOM + MAX_IN_PLACE] = b".................0123456789abcdef";
 
 /// Headers that are stamped in turn, so that each length comes after itself and after the other one.
-const HEADERS: [&[u8]; 5] = [
+static HEADERS: [&[u8]; 5] = [
     b"abcdefghijkl",
     b"ABCDEFGHIJKL",
     b"abcdefghijklmnopq",
@@ -127,13 +127,13 @@ fn is_vector_stamped(vector: Vec<u8>, payload: &[u8]) -> bool {
 }
 
 /// The number of zeros that make a payload: the bounds, what a value holds, and one byte more.
-const ZEROS: [usize; 5] = [1, 2, 16, 17, 9000];
+static ZEROS: [usize; 5] = [1, 2, 16, 17, 9000];
 
 // The same of a body that `zeros` makes of each of these counts.
 fn are_zeros_stamped(alloc: Global) -> bool {
     let longest = [0; MAX_PAYLOAD];
     let mut are_stamped = true;
-    for count in ZEROS {
+    for &count in &ZEROS {
         if count < 1 || count > MAX_PAYLOAD {
             return false;
         }
@@ -156,7 +156,7 @@ fn shows_all(body: Body, payload: &[u8]) -> bool {
     let mut body = body;
     let mut frame = ZeroFrame::new();
     let mut shows = body.framed_in(&mut frame) == payload && body.as_slice() == payload;
-    for header in HEADERS {
+    for &header in &HEADERS {
         shows = shows && shows_header(&mut body, &mut frame, header, payload);
     }
     drop(body);
@@ -173,7 +173,7 @@ fn shows_header(body: &mut Body, frame: &mut ZeroFrame, header: &[u8], payload: 
 }
 
 /// Each refusal: its number, its name and its text.
-const REFUSALS: [(Refusal, &str); 22] = [
+static REFUSALS: [(Refusal, &str); 22] = [
     (Refusal::NoMemory, "1 NoMemory: memory was refused"),
     (
         Refusal::Spent,
@@ -253,7 +253,7 @@ fn are_words() -> bool {
 
 #[test]
 fn refusals_have_numbers_names_and_texts(rt: HostRuntime) {
-    for (refusal, text) in REFUSALS {
+    for &(refusal, text) in &REFUSALS {
         holds(&rt, text, is_told(rt.alloc(), refusal, text));
     }
     holds(&rt, "words", are_words());
@@ -261,7 +261,7 @@ fn refusals_have_numbers_names_and_texts(rt: HostRuntime) {
 
 /// A call that makes a value, its payload, and the number of requests that it takes. A body takes one if its payload
 /// and the room before it have more than 33 bytes, and it is for no more than these. A parcel has two bodies.
-const COPIES: [(Made, &[u8], u16); 11] = [
+static COPIES: [(Made, &[u8], u16); 11] = [
     (Made::Body, b"", 0),
     (Made::Body, b"0", 0),
     (Made::Body, b"0123456789abcdef", 0),
@@ -287,7 +287,7 @@ fn made_of(payload: &[u8]) -> Result<bool, Refusal> {
 fn payloads_are_copied_once_their_memory_is_found(rt: HostRuntime) {
     let alloc = rt.alloc();
     let is_steered = is_steered(alloc);
-    for (kind, payload, requests) in COPIES {
+    for &(kind, payload, requests) in &COPIES {
         for request in 1..4 {
             mark(alloc);
             refuse(alloc, request);

@@ -186,7 +186,7 @@ fn play(rt: &impl Abort, alloc: Global, buffers: &mut Buffers, rows: &[Row]) {
 }
 
 /// Limits have a range, closing gives the count of the packets held, and a buffer opened again numbers from 1.
-const OPENED: [Row; 13] = [
+static OPENED: [Row; 13] = [
     Row::Shows(1, None),
     Row::Open(1, 4, Some(Ok(()))),
     Row::Push(1, b'1', Some(Ok(1))),
@@ -204,7 +204,7 @@ const OPENED: [Row; 13] = [
 
 /// These calls take no memory. A refused packet takes no number, a handle is of its flow, and a header replaces the one
 /// before it.
-const USED: [Row; 30] = [
+static USED: [Row; 30] = [
     Row::Open(2, 0, Some(Err(Refusal::Range))),
     Row::Open(2, 1025, Some(Err(Refusal::Range))),
     Row::Open(2, 4294967297, Some(Err(Refusal::Range))),

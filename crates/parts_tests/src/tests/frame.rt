@@ -111,7 +111,7 @@ fn read_hex(version: Version, text: &str) -> FrameRead2 {
 }
 
 /// Fields, and where they begin in version 1 and in version 2.
-const STARTS: [(Field, usize, usize); 6] = [
+static STARTS: [(Field, usize, usize); 6] = [
     (Field::Magic, 0, 0),
     (Field::Version, 1, 1),
     (Field::Tariff, 2, 2),
@@ -122,7 +122,7 @@ const STARTS: [(Field, usize, usize); 6] = [
 
 #[test]
 fn fields_have_places(rt: HostRuntime) {
-    for (field, one, two) in STARTS {
+    for &(field, one, two) in &STARTS {
         same(&rt, field, (field.start(One), field.start(Two)), (one, two));
     }
 }

@@ -52,7 +52,7 @@ const TABLES_ARE_FULL: &str =
     mkcur base = Taken; open fresh = TableFull; open c07 = Taken; mktkt 1 base = TableFull; mktkt 0 fresh = Range;
     mktkt 1 fresh = NoCurrency";
 
-const TABLES: [Table; 12] = [
+static TABLES: [Table; 12] = [
     (
         "three currencies deep, with fewer and fewer flows",
         THREE_DEEP,
@@ -357,7 +357,7 @@ fn plays(rt: &impl Abort, alloc: Global, ledger: &mut Ledger, table: Table) {
 
 #[test]
 fn worked_rows_take_no_memory(rt: HostRuntime) {
-    for table in TABLES {
+    for &table in &TABLES {
         let mut ledger = Ledger::new(rt.alloc()).expect(&rt, "memory");
         plays(&rt, rt.alloc(), &mut ledger, table);
         drop(ledger);

@@ -38,7 +38,7 @@ enum StdAnswer {
 }
 
 /// The answer for each length, in turn.
-const ANSWERS: [StdAnswer; 7] = [
+static ANSWERS: [StdAnswer; 7] = [
     StdAnswer::All,
     StdAnswer::Error(ErrorKind::Interrupted),
     StdAnswer::Half,
@@ -49,7 +49,7 @@ const ANSWERS: [StdAnswer; 7] = [
 ];
 
 /// Each kind of error but `Interrupted`.
-const FAILURES: [ErrorKind; 41] = [
+static FAILURES: [ErrorKind; 41] = [
     ErrorKind::NotFound,
     ErrorKind::PermissionDenied,
     ErrorKind::ConnectionRefused,
@@ -201,7 +201,7 @@ fn is_one_call(bytes: &mut [u8], answer: StdAnswer) -> bool {
 fn an_offer_and_a_read_are_one_call_with_all_bytes(rt: HostRuntime) -> Result<(), Fail> {
     let mut bytes = Vec::from_elem(rt.alloc(), b'.', LONGEST)?;
     for length in 0..=LONGEST {
-        for answer in ANSWERS {
+        for &answer in &ANSWERS {
             let held = bytes.len();
             let piece = &mut bytes[..length.min(held)];
             holds(&rt, (answer, length), is_one_call(piece, answer));
@@ -213,7 +213,7 @@ fn an_offer_and_a_read_are_one_call_with_all_bytes(rt: HostRuntime) -> Result<()
 #[test]
 fn every_error_but_an_interruption_is_a_failure(rt: HostRuntime) {
     let mut bytes = [b'.'; 9017];
-    for kind in FAILURES {
+    for &kind in &FAILURES {
         holds(&rt, kind, is_one_call(&mut bytes, StdAnswer::Error(kind)));
     }
 }
@@ -225,7 +225,7 @@ const BROKEN: StdAnswer = StdAnswer::Error(ErrorKind::BrokenPipe);
 
 /// The number of times that the writer is interrupted, and its answer then. Then come the answer to a piece of three
 /// bytes, and the number of calls in all.
-const PATIENCE: [(u64, StdAnswer, Answer, u64); 7] = [
+static PATIENCE: [(u64, StdAnswer, Answer, u64); 7] = [
     (0, StdAnswer::All, Answer::Accepted(3), 1),
     (7, StdAnswer::All, Answer::Accepted(3), 8),
     (OFFERS - 1, StdAnswer::All, Answer::Accepted(3), OFFERS),
@@ -246,7 +246,7 @@ fn patient(interruptions: u64, answer: StdAnswer) -> PatientWriter<PlainWriter<C
 
 #[test]
 fn an_interrupted_offer_is_made_again(rt: HostRuntime) {
-    for (interruptions, answer, wanted, calls) in PATIENCE {
+    for &(interruptions, answer, wanted, calls) in &PATIENCE {
         let mut writer = patient(interruptions, answer);
         let row = (interruptions, answer);
         same(&rt, row, writer.offer(b"abc"), wanted);

@@ -25,7 +25,7 @@ fn units_by_steps(cell: u64, overhead: u64, count: u32) -> u64
 }
 
 /// Counts of bytes, and their units under the tariff of cell 48 and overhead 16.
-const UNITS: [(u32, u64); 6] = [
+static UNITS: [(u32, u64); 6] = [
     (0, 0),
     (1, 64),
     (48, 64),
@@ -35,7 +35,7 @@ const UNITS: [(u32, u64); 6] = [
 ];
 
 fn charges(rt: &impl Abort, tariff: &Tariff) {
-    for (count, units) in UNITS {
+    for &(count, units) in &UNITS {
         if count < 65536 {
             same(rt, count, tariff.units(count), units);
         }

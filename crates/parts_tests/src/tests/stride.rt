@@ -171,7 +171,7 @@ fn fill(rt: &impl Abort, queue: &mut Queue) {
     }
 }
 
-const CASES: [(&str, &str); 7] = [
+static CASES: [(&str, &str); 7] = [
     ("three flows", THREE_FLOWS),
     ("rescaled", RESCALED),
     ("behind", BEHIND),
@@ -200,7 +200,7 @@ fn plays(
 #[test]
 fn worked_figures_take_no_memory(rt: HostRuntime) {
     let alloc = rt.alloc();
-    for (case, rows) in CASES {
+    for &(case, rows) in &CASES {
         mark(alloc);
         let mut queue = Queue::new(alloc).expect(&rt, "memory");
         plays(&rt, alloc, &mut queue, case, rows);

@@ -15,11 +15,11 @@ use std::sync::atomic::{AtomicU64, Ordering};
 use std::test::Fail;
 
 /// Counts of bytes whose units are compared.
-const COUNTS: [u32; 6] = [0, 1, 48, 49, 1502, 9017];
+static COUNTS: [u32; 6] = [0, 1, 48, 49, 1502, 9017];
 
 /// The cell, the overhead and the price of a tariff, its units for these counts, and what 100 units make of an account
 /// of 7.
-const UNITS: [(u64, u64, u64, [u64; 6], u64); 4] = [
+static UNITS: [(u64, u64, u64, [u64; 6], u64); 4] = [
     (1, 0, 1, [0, 1, 48, 49, 1502, 9017], 107),
     (48, 16, 2, [0, 64, 64, 112, 1552, 9040], 207),
     (1024, 0, 1, [0, 1024, 1024, 1024, 2048, 9216], 107),
@@ -29,8 +29,8 @@ const UNITS: [(u64, u64, u64, [u64; 6], u64); 4] = [
 #[test]
 fn tariffs_charge_whole_cells(rt: HostRuntime) {
     bytes_fill_whole_cells();
-    for (cell, overhead, price, units, account) in UNITS {
-        for (count, wanted) in COUNTS.into_iter().zip(units) {
+    for &(cell, overhead, price, units, account) in &UNITS {
+        for (&count, wanted) in COUNTS.iter().zip(units) {
             let charged = units_by_division(cell, overhead, count);
             same(&rt, (cell, count), charged, wanted);
         }
@@ -38,7 +38,7 @@ fn tariffs_charge_whole_cells(rt: HostRuntime) {
     }
 }
 
-const RANGES: [(u64, u64, u64, Option<Refusal>); 7] = [
+static RANGES: [(u64, u64, u64, Option<Refusal>); 7] = [
     (1, 0, 0, None),
     (2048, 1024, 65535, None),
     (0, 0, 1, Some(Refusal::Range)),
@@ -73,7 +73,7 @@ fn refusal(
 #[test]
 fn tariffs_have_ranges_and_refused_ones_are_dropped(rt: HostRuntime) -> Result<(), Fail> {
     let token = Arc::new(rt.alloc(), 0u8)?;
-    for (cell, overhead, price, wanted) in RANGES {
+    for &(cell, overhead, price, wanted) in &RANGES {
         let row = (cell, overhead, price);
         let refusal = refusal(&rt, rt.alloc(), &token, cell, overhead, price);
         same(&rt, row, refusal, wanted);

@@ -117,7 +117,7 @@ const OPEN: Case<'static> = Case {
     ..NOTHING
 };
 
-const CASES: [Case<'static>; 13] = [
+static CASES: [Case<'static>; 13] = [
     NOTHING,
     OPEN,
     Case {
@@ -269,14 +269,17 @@ impl<'a, T: Wait, L: LinkBrand> Gate for AtPace<'a, T, L> {
     }
 }
 
+fn adds(rt: &impl Abort, records: &mut Vec<u8>, bytes: &[u8]) {
+    records.extend_from_slice(bytes).expect(rt, "memory");
+}
+
 // A record for a flow for each byte.
 fn records(rt: &impl Abort, alloc: Global, flow: &str, bytes: &str) -> Vec<u8> {
     let mut records = Vec::new(alloc);
     for byte in bytes.as_bytes() {
-        let pieces: [&[u8]; 3] = [&[1], flow.as_bytes(), &[0, 1, *byte]];
-        for piece in pieces {
-            records.extend_from_slice(piece).expect(rt, "memory");
-        }
+        adds(rt, &mut records, &[1]);
+        adds(rt, &mut records, flow.as_bytes());
+        adds(rt, &mut records, &[0, 1, *byte]);
     }
     records
 }

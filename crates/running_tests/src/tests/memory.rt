@@ -27,7 +27,7 @@ type Writer = PlainWriter<Sink>;
 
 /// Commands that take memory, and the number of requests that each makes. A flow takes memory for its packets and for
 /// four parts of its table. A currency takes it for four of its own, of which one is empty.
-const GROWING: [(&str, u16); 3] = [
+static GROWING: [(&str, u16); 3] = [
     ("C1 open a 4 1 = 1 flow 1", 5),
     ("C1 mkcur x = 1 ok", 4),
     ("C1 mktkt 10 base = 1 ticket 1", 1),
@@ -263,7 +263,7 @@ fn is_done_once_found<T: Abort + Wait>(rt: &T, alloc: Global, play: Play, reques
 
 #[test]
 fn links_refuse_what_finds_no_memory_and_keep_nothing(rt: HostRuntime) {
-    for (row, requests) in GROWING {
+    for &(row, requests) in &GROWING {
         is_done_once_found(&rt, rt.alloc(), Play::Command(row), requests);
     }
     is_done_once_found(&rt, rt.alloc(), Play::Report, 2);

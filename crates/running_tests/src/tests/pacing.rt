@@ -30,7 +30,7 @@ const PLACES: usize = 256;
 const LIFE: u64 = 65536;
 
 /// The flows, one for each worker. Their buffers take 1, 2 and 1024 packets. The last one is held meanwhile.
-const FLOWS: [&[u8]; WORKERS] = [b"a", b"b", b"c"];
+static FLOWS: [&[u8]; WORKERS] = [b"a", b"b", b"c"];
 
 const OPENED: &str = "\
     C1 open a 1 1; C1 mktkt 1 base; C1 fund 1 flow a; C1 open b 2 1; C1 mktkt 1 base; C1 fund 2 flow b; \

@@ -160,9 +160,8 @@ impl<'a, T: Abort + Wait, W: TellingWriter, L: LinkBrand> Session<'a, T, W, L> {
         drop(offered);
     }
 
-    fn admits(&mut self) {
-        let admit = self.stage.port.lock(self.rt).admit(self.rt);
-        match &admit {
+    fn say_admit(&mut self, admit: &Admit) {
+        match admit {
             Admit::Admitted { worker, n, reply } => {
                 self.say_number(*worker);
                 self.say_number(*n);
@@ -171,6 +170,11 @@ impl<'a, T: Abort + Wait, W: TellingWriter, L: LinkBrand> Session<'a, T, W, L> {
             Admit::Empty => self.say("empty"),
             Admit::Spent => self.say("spent"),
         }
+    }
+
+    fn admits(&mut self) {
+        let admit = self.stage.port.lock(self.rt).admit(self.rt);
+        self.say_admit(&admit);
     }
 
     fn turns(&mut self, most: u64) {

@@ -124,13 +124,17 @@ impl<W: TellingWriter, L: LinkBrand> Attendant for Stage<W, L> {
     }
 }
 
+fn adds<A: Drop>(rt: &impl Abort, list: &mut Vec<A>, item: A) {
+    assert!(rt; list.push(item).is_ok());
+}
+
 // The ends, each in a place of its own.
 fn into_slots<L: LinkBrand>(rt: &impl Abort, alloc: Global, ends: Vec<IngressEnd>) -> Vec<Slot<L>>
     requires { Each (λ e. e.link ≡ L.link) ends.items }
 {
     let mut slots = Vec::new(alloc);
     for end in ends {
-        assert!(rt; slots.push(Mutex::new(Some(BrandedEnd::new(end)))).is_ok());
+        adds(rt, &mut slots, Mutex::new(Some(BrandedEnd::new(end))));
     }
     slots
 }
@@ -147,6 +151,12 @@ fn into_ends<L: LinkBrand>(rt: &impl Abort, alloc: Global, slots: Vec<Slot<L>>) 
     ends
 }
 
+// A clerk has this number and took no memory.
+fn is_clerk<L: LinkBrand>(rt: &impl Abort, alloc: Global, clerk: &Clerk<L>, number: u64) {
+    holds(rt, "a clerk takes no memory", !was_refused(alloc));
+    same(rt, "a clerk", clerk.number(), number);
+}
+
 // The next clerk, which has this number and takes no memory.
 fn clerk_of<W: TellingWriter, L: LinkBrand>(
     rt: &impl Abort,
@@ -156,8 +166,7 @@ fn clerk_of<W: TellingWriter, L: LinkBrand>(
 ) -> Mutex<Clerk<L>> {
     refuse_each(alloc);
     let clerk = locked.clerk(alloc).expect(rt, "a clerk");
-    holds(rt, "a clerk takes no memory", !was_refused(alloc));
-    same(rt, "a clerk", clerk.number(), number);
+    is_clerk(rt, alloc, &clerk, number);
     Mutex::new(clerk)
 }
 
@@ -182,7 +191,7 @@ pub(super) fn staged<W: TellingWriter + Drop, L: LinkBrand>(
     let mut clerks = Vec::new(alloc);
     for made in 0..count {
         let clerk = clerk_of(rt, alloc, &mut locked, made.saturating_add(1));
-        assert!(rt; clerks.push(clerk).is_ok());
+        adds(rt, &mut clerks, clerk);
     }
     Stage {
         port: Mutex::new(locked),
@@ -204,7 +213,7 @@ pub(super) enum Without {
 // Moves the last of a list to another one.
 fn move_last<A: Drop>(rt: &impl Abort, from: &mut Vec<A>, to: &mut Vec<A>) {
     if let Some(last) = from.pop() {
-        assert!(rt; to.push(last).is_ok());
+        adds(rt, to, last);
     }
 }
 
@@ -215,7 +224,7 @@ fn into_clerks<L: LinkBrand>(
 ) -> Vec<Clerk<L>> {
     let mut clerks = Vec::new(alloc);
     for slot in slots {
-        assert!(rt; clerks.push(slot.into_inner()).is_ok());
+        adds(rt, &mut clerks, slot.into_inner());
     }
     clerks
 }
@@ -274,7 +283,7 @@ pub(super) fn unsettled<W: TellingWriter + Drop, L: LinkBrand>(
     move_last(rt, &mut left_out, &mut ends);
     drop(left_out);
     for clerk in back.clerks {
-        assert!(rt; first.push(Mutex::new(clerk)).is_ok());
+        adds(rt, &mut first, Mutex::new(clerk));
     }
     Stage {
         port: Mutex::new(back.locked),

@@ -178,7 +178,7 @@ const INTERRUPTED: Taken = Taken::Error(ErrorKind::Interrupted);
 type Row = (&'static [Taken], bool, bool, &'static str);
 
 /// The outcome of the audit of an empty journal, which goes out in one call.
-const WRITES: [Row; 14] = [
+static WRITES: [Row; 14] = [
     (&[], true, true, AUDIT),
     (&[Taken::Most(1)], true, true, AUDIT),
     (&[Taken::Most(1), Taken::Most(6)], true, true, AUDIT),
@@ -211,7 +211,7 @@ const WRITES: [Row; 14] = [
 ];
 
 /// The outcome of an audit that goes out in several calls. Its row is the only one, since it takes long.
-const LONG_WRITES: [Row; 1] = [(&[Taken::Most(5), FULL, FULL], true, false, "audit")];
+static LONG_WRITES: [Row; 1] = [(&[Taken::Most(5), FULL, FULL], true, false, "audit")];
 
 /// The number of commands in a journal whose audit goes out in several calls: 72008 bytes, of which 65536 go together.
 const LONG: u64 = 9000;

@@ -24,7 +24,7 @@ const LIFE: u64 = 100;
 
 /// The bytes of a connection, with a bar after what one read gives, and two bars if a read is interrupted. Then come
 /// what is written, with a bar after what one write call takes, and the number of commands made.
-const CONVERSATIONS: [(&[u8], &[u8], usize); 12] = [
+static CONVERSATIONS: [(&[u8], &[u8], usize); 12] = [
     (b"", b"", 0),
     (b"nonsense\n", b"no 3 Syntax\n|", 0),
     (
@@ -74,7 +74,7 @@ const SESSION: &[u8] =
 
 /// The answers, and the number of commands made, if that many bytes of the session come. They are at least the first
 /// number, and fewer than the second.
-const CUTS: [(usize, usize, &[u8], usize); 8] = [
+static CUTS: [(usize, usize, &[u8], usize); 8] = [
     (0, 11, b"", 0),
     (11, 24, b"flow 1\n", 1),
     (24, 38, b"flow 1\nticket 1\n", 2),
@@ -122,7 +122,7 @@ const INTERRUPTED: Taken = Taken::Error(ErrorKind::Interrupted);
 /// Lines, the answers of write calls in turn, what is written, the end of the connection, and the number of commands
 /// made. An offer that a refused call left is offered once more when the connection is dropped, so a call that stays
 /// refused is refused twice.
-const WRITES: [(&[u8], &[Taken], &[u8], How, usize); 20] = [
+static WRITES: [(&[u8], &[Taken], &[u8], How, usize); 20] = [
     (APART, &[BROKEN, BROKEN], b"", How::WriteFault, 1),
     (APART, &[RESET, RESET], b"", How::WriteFault, 1),
     (APART, &[BLOCKED, BLOCKED], b"", How::WriteFault, 1),
@@ -502,7 +502,7 @@ fn are_answered<T: Wait + Abort, S: Rates + Copy>(
     alloc: Global,
     shelf: S,
 ) -> Result<(), Fail> {
-    for (bytes, want, commands) in CONVERSATIONS {
+    for &(bytes, want, commands) in &CONVERSATIONS {
         let mut written = Vec::new(alloc);
         let ended = answered(rt, alloc, shelf, whole(bytes), &mut written);
         assert_eq!(rt; ended, (How::End, commands));
@@ -540,7 +540,7 @@ fn is_cut<T: Wait + Abort, S: Rates + Copy>(
 
 // Checks that whole lines alone are answered, wherever the session is cut and whichever read fails.
 fn cut_lines_are_no_lines<T: Wait + Abort, S: Rates + Copy>(rt: &T, alloc: Global, shelf: S) {
-    for (first, end, want, commands) in CUTS {
+    for &(first, end, want, commands) in &CUTS {
         for cut in first..end {
             is_cut(rt, alloc, shelf, cut, want, commands);
         }
@@ -549,7 +549,7 @@ fn cut_lines_are_no_lines<T: Wait + Abort, S: Rates + Copy>(rt: &T, alloc: Globa
 
 // Checks that answers go out once and in order, whatever the write calls take, up to one that is refused.
 fn answers_go_out_once<T: Wait + Abort, S: Rates + Copy>(rt: &T, alloc: Global, shelf: S) {
-    for (number, (bytes, taken, want, how, commands)) in WRITES.into_iter().enumerate() {
+    for (number, &(bytes, taken, want, how, commands)) in WRITES.iter().enumerate() {
         let mut written = Vec::new(alloc);
         let asked = Asked {
             taken,
@@ -604,7 +604,7 @@ fn is_no_request<T: Wait + Abort, S: Rates + Copy>(
 
 /// The numbers of digits that a packet has in a line. First come those of 1 byte, and of as many bytes as a frame of
 /// each version carries and of one more. Then come as many as a line of 20480 bytes has room for, and more than that.
-const DIGITS: [usize; 8] = [2, 2980, 2982, 18000, 18002, 20472, 20474, 40000];
+static DIGITS: [usize; 8] = [2, 2980, 2982, 18000, 18002, 20472, 20474, 40000];
 
 // Checks that neither a packet, however long, nor a line of more than 20480 bytes is a request.
 fn packets_and_over_long_lines_are_no_requests<T: Wait + Abort, S: Rates + Copy>(
@@ -612,7 +612,7 @@ fn packets_and_over_long_lines_are_no_requests<T: Wait + Abort, S: Rates + Copy>
     alloc: Global,
     shelf: S,
 ) -> Result<(), Fail> {
-    for digits in DIGITS {
+    for &digits in &DIGITS {
         is_no_request(rt, alloc, shelf, b"send a ", digits)?;
     }
     is_no_request(rt, alloc, shelf, b"", 20481)

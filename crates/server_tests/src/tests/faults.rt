@@ -5,7 +5,7 @@ use std::alloc::Global;
 use std::io::{Error, ErrorKind};
 
 /// Each fault, and its text.
-const FAULTS: [(ServeFault, &str); 10] = [
+static FAULTS: [(ServeFault, &str); 10] = [
     (ServeFault::Accept, "cannot accept a connection"),
     (ServeFault::Thread, "cannot start a worker"),
     (ServeFault::Uplink, "the uplink failed"),
@@ -19,7 +19,7 @@ const FAULTS: [(ServeFault, &str); 10] = [
 ];
 
 /// Faults with the system's number of an error, and their texts. Number 24 has no kind, so its text is the system's.
-const NUMBERED: [(ServeFault, i32, &str); 3] = [
+static NUMBERED: [(ServeFault, i32, &str); 3] = [
     (
         ServeFault::Accept,
         24,
@@ -43,14 +43,14 @@ fn is_shown(alloc: Global, fault: RunFault, text: &str) -> bool {
 
 #[test]
 fn faults_have_their_texts(rt: HostRuntime) {
-    for (kind, text) in FAULTS {
+    for &(kind, text) in &FAULTS {
         assert!(rt; is_shown(rt.alloc(), RunFault::from(kind), text), "{text}");
     }
 }
 
 #[test]
 fn faults_have_their_reasons(rt: HostRuntime) {
-    for (kind, number, text) in NUMBERED {
+    for &(kind, number, text) in &NUMBERED {
         let reason = Some(Reason(Error::from_raw_os_error(number)));
         assert!(rt;
             is_shown(rt.alloc(), RunFault { kind, reason }, text),

@@ -32,7 +32,7 @@ const RECORD: &[u8] = &[1, 0x61, 0, 1, 0x61];
 const FRAME: &[u8; 18] = b"\x4c\x02\x01\0\0\0\x01\0\0\0\0\0\0\0\x01\0\x01\x61";
 
 /// A payload as long as a frame carries, the bytes before it in its record, and those before it in its frame.
-const LONG_PAYLOAD: [u8; 9000] = [0x61; 9000];
+static LONG_PAYLOAD: [u8; 9000] = [0x61; 9000];
 
 const LONG_RECORD: &[u8] = &[1, 0x61, 0x23, 0x28];
 
@@ -69,7 +69,7 @@ pub(super) const PLAN: Plan = Plan {
 };
 
 /// The records of two ingress connections, each with a payload that is the connection's number.
-const NUMBERED: [&[u8]; 2] = [&[1, 0x61, 0, 1, 1], &[1, 0x61, 0, 1, 2]];
+static NUMBERED: [&[u8]; 2] = [&[1, 0x61, 0, 1, 1], &[1, 0x61, 0, 1, 2]];
 
 /// The ends of the clients and of the uplink's peer.
 #[derive(Clone, Copy, Debug, PartialEq, Eq)]

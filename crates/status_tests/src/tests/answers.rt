@@ -90,7 +90,7 @@ fn refused(rt: &impl Abort, alloc: Global, why: Refusal, reason: &str, end: &str
 }
 
 /// Refusals, the status and reason of each, and the end of its answer after the fields that all have.
-const REFUSALS: [(Refusal, &str, &str); 8] = [
+static REFUSALS: [(Refusal, &str, &str); 8] = [
     (
         Refusal::BadRequest,
         "400 Bad Request",
@@ -135,7 +135,7 @@ const REFUSALS: [(Refusal, &str, &str); 8] = [
 
 #[test]
 fn refusals_have_their_reasons(rt: HostRuntime) -> Result<(), Fail> {
-    for (why, reason, end) in REFUSALS {
+    for &(why, reason, end) in &REFUSALS {
         refused(&rt, rt.alloc(), why, reason, end);
     }
     Ok(())

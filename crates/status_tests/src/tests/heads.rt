@@ -234,7 +234,7 @@ fn long_head(
 const START: &str = "GET / HTTP/1.1\r\nHost: 127.0.0.1:9107\r\n";
 
 /// Heads that are too long: a beginning, a text and how often it follows, the end, and the refusal.
-const LONG_HEADS: [(&str, &str, &str, usize, &str, Refusal); 5] = [
+static LONG_HEADS: [(&str, &str, &str, usize, &str, Refusal); 5] = [
     ("target", "GET /", "a", 9000, "", Refusal::UriTooLong),
     ("a field", START, "a", 9000, "", Refusal::HeadTooLarge),
     (
@@ -265,7 +265,7 @@ const LONG_HEADS: [(&str, &str, &str, usize, &str, Refusal); 5] = [
 
 #[test]
 fn long_heads_are_refused(rt: HostRuntime) -> Result<(), Fail> {
-    for (row, first, line, count, last, why) in LONG_HEADS {
+    for &(row, first, line, count, last, why) in &LONG_HEADS {
         let bytes = long_head(rt.alloc(), first, line, count, last)?;
         let head = head_of(&rt, rt.alloc(), bytes.as_slice(), 16384, b"");
         same(&rt, row, head.is_over(), true);

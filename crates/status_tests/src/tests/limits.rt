@@ -21,7 +21,7 @@ fn send(rt: &impl Abort, messages: &mut Messages, row: usize, burst: Burst) {
 }
 
 /// Ten of a kind are printed in a second. Another kind and another second begin anew, a second before too.
-const BURSTS: [Burst; 12] = [
+static BURSTS: [Burst; 12] = [
     (Kind::Closed, 100, 1, 1, 0),
     (Kind::Closed, 100, 11, 9, 0),
     (Kind::Refused, 100, 10, 10, 0),
@@ -40,7 +40,7 @@ const BURSTS: [Burst; 12] = [
 fn ten_lines_a_second_are_printed(rt: HostRuntime) {
     let mut messages = Messages::new(rt.alloc(), false);
     let mut row = 0usize;
-    for burst in BURSTS {
+    for &burst in &BURSTS {
         row = row.saturating_add(1);
         send(&rt, &mut messages, row, burst);
     }

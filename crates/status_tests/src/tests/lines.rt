@@ -6,7 +6,7 @@ use share_messages::{KINDS, Kind, Line, LinesLeftOut};
 use std::test::Fail;
 
 /// A kind, its word, whether its lines are left out if there are many, and whether a quiet gateway prints them.
-const WORDS: [(Kind, &str, bool, bool); KINDS] = [
+static WORDS: [(Kind, &str, bool, bool); KINDS] = [
     (Kind::Started, "started", true, false),
     (Kind::Connected, "connected", true, false),
     (Kind::Lost, "lost", true, false),
@@ -29,7 +29,7 @@ const WORDS: [(Kind, &str, bool, bool); KINDS] = [
 #[test]
 fn kinds_have_words(rt: HostRuntime) {
     let mut all = Kind::ALL.iter();
-    for (kind, word, is_limited, is_quiet) in WORDS {
+    for &(kind, word, is_limited, is_quiet) in &WORDS {
         same(&rt, word, all.next().copied(), Some(kind));
         same(&rt, word, kind.word(), word);
         same(&rt, word, kind.is_limited(), is_limited);
@@ -38,7 +38,7 @@ fn kinds_have_words(rt: HostRuntime) {
 }
 
 /// A kind, a tenant or nothing, a reason, and the line.
-const LINES: [(Kind, &str, &str, &str); 6] = [
+static LINES: [(Kind, &str, &str, &str); 6] = [
     (
         Kind::Lost,
         "",
@@ -76,7 +76,7 @@ const LINES: [(Kind, &str, &str, &str); 6] = [
 fn lines_are_spelled(rt: HostRuntime) -> Result<(), Fail> {
     let alloc = rt.alloc();
     let time = Time::new(2026, 1, 31, 23, 59, 59);
-    for (kind, name, why, wanted) in LINES {
+    for &(kind, name, why, wanted) in &LINES {
         let tenant = tenant_of(&rt, name);
         let line = format!(in alloc;
             "{}",

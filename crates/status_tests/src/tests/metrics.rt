@@ -26,7 +26,7 @@ const LITTLE: &str = "# HELP stridelink_book The number of the open book\n\
     # TYPE stridelink_disk_fails gauge\nstridelink_disk_fails 1\n";
 
 /// Lines of a gateway with all parts and two tenants, in each form.
-const WHOLE: [&str; 30] = [
+static WHOLE: [&str; 30] = [
     "\nstridelink_book 42\n",
     "\nstridelink_book_events 131\n",
     "\nstridelink_events_left 16777085\n",
@@ -176,7 +176,7 @@ fn whole<'a>(rt: &impl Abort, tenants: &'a [TenantStatus<'a>]) -> Status<'a> {
 
 // Both forms of the text of the whole status have its lines.
 fn have_lines(rt: &impl Abort, plain: &str, open: &str) {
-    for line in WHOLE {
+    for &line in &WHOLE {
         same(rt, line, plain.contains(line), true);
         same(rt, line, open.contains(line), true);
     }

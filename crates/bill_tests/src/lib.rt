@@ -1,5 +1,0 @@
-//! Tests of bills, over the public calls of share_bill.
-#![tactic(auto)]
-
-#[cfg(test)]
-mod tests;

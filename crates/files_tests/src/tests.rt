@@ -1,0 +1,20 @@
+//! Files of a gateway, right and wrong, their plans, and files that are read again beside what a gateway has. Worked rows
+//! of books on disk: what is read and written, and which steps a close and a recovery make, also in folders of books.
+
+mod assertions;
+mod books;
+mod catalog_rows;
+mod changes;
+mod files;
+mod folders;
+mod holds;
+mod loading;
+mod names;
+mod origins;
+mod recoveries;
+mod rosters;
+mod rows;
+mod sections;
+mod settings;
+mod steps;
+mod verification;

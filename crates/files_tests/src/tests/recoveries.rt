@@ -1,0 +1,224 @@
+//! Folders that kills left, and what a start makes of them.
+
+use super::books::{
+    BAD_CSV, CSV, CUT_CSV, CUT_TEXT, NO_COLUMNS, NO_ROW, NO_RUN, REPORT, TARIFFS, TEXT, TWO_ROWS,
+};
+use super::folders::{Named, count_files, has_file, make_file, new_folder, path_in, remove_folder};
+use share_catalog::{BookTariff, Closing, Row, Tariffs, TextKind, Time, Totals};
+use share_disk::{BookEnd, Folder, NotOpened, NotRecovered};
+use std::alloc::Global;
+use std::fs::{File, Files};
+use std::process::Abort;
+use std::test::Fail;
+
+/// A folder before and after a start.
+#[derive(Clone, Copy)]
+struct Case {
+    name: &'static str,
+    before: &'static [Named],
+    after: &'static [Named],
+    next: u64,
+}
+
+/// The closed book.
+const CLOSED: [Named; 3] = [
+    ("000001.lengths", TEXT),
+    ("000001.report", REPORT),
+    ("books.csv", CSV),
+];
+
+/// Folders that a kill before and after each step of a close leaves, and texts that cannot be closed.
+static CASES: [Case; 13] = [
+    Case {
+        name: "nothing",
+        before: &[],
+        after: &[],
+        next: 1,
+    },
+    Case {
+        name: "an open text",
+        before: &[("000001.open", TEXT), ("000001.tariffs", TARIFFS)],
+        after: &CLOSED,
+        next: 2,
+    },
+    Case {
+        name: "an open text with a cut line",
+        before: &[("000001.open", CUT_TEXT), ("000001.tariffs", TARIFFS)],
+        after: &CLOSED,
+        next: 2,
+    },
+    Case {
+        name: "a renamed text",
+        before: &[("000001.lengths", TEXT), ("000001.tariffs", TARIFFS)],
+        after: &CLOSED,
+        next: 2,
+    },
+    Case {
+        name: "a part of a report",
+        before: &[
+            ("000001.lengths", TEXT),
+            ("000001.part", "clock"),
+            ("000001.tariffs", TARIFFS),
+        ],
+        after: &CLOSED,
+        next: 2,
+    },
+    Case {
+        name: "no row",
+        before: &[
+            ("000001.lengths", TEXT),
+            ("000001.report", REPORT),
+            ("000001.tariffs", TARIFFS),
+        ],
+        after: &CLOSED,
+        next: 2,
+    },
+    Case {
+        name: "a cut row",
+        before: &[
+            ("000001.lengths", TEXT),
+            ("000001.report", REPORT),
+            ("000001.tariffs", TARIFFS),
+            ("books.csv", CUT_CSV),
+        ],
+        after: &CLOSED,
+        next: 2,
+    },
+    Case {
+        name: "no report, and a row before another one",
+        before: &[
+            ("000001.lengths", TEXT),
+            ("000001.tariffs", TARIFFS),
+            ("books.csv", TWO_ROWS),
+        ],
+        after: &[
+            ("000001.lengths", TEXT),
+            ("000001.report", REPORT),
+            ("books.csv", TWO_ROWS),
+        ],
+        next: 3,
+    },
+    Case {
+        name: "tariffs that are left",
+        before: &[
+            ("000001.lengths", TEXT),
+            ("000001.report", REPORT),
+            ("000001.tariffs", TARIFFS),
+            ("books.csv", CSV),
+        ],
+        after: &CLOSED,
+        next: 2,
+    },
+    Case {
+        name: "a closed book",
+        before: &CLOSED,
+        after: &CLOSED,
+        next: 2,
+    },
+    Case {
+        name: "no run",
+        before: &[("000001.open", NO_RUN), ("000001.tariffs", TARIFFS)],
+        after: &[("000001.bad", NO_RUN), ("books.csv", BAD_CSV)],
+        next: 2,
+    },
+    Case {
+        name: "no first line",
+        before: &[("000041.open", "lengt"), ("000041.tariffs", TARIFFS)],
+        after: &[],
+        next: 42,
+    },
+    Case {
+        name: "tariffs alone",
+        before: &[("000041.tariffs", TARIFFS)],
+        after: &[],
+        next: 42,
+    },
+];
+
+/// Texts of `books.csv` that are refused, and the number of the line that is named.
+static REFUSED: [(&str, u64); 2] = [(NO_COLUMNS, 1), (NO_ROW, 3)];
+
+// Checks that a folder has these files, and no others.
+fn has_files<R: Files<File = File> + Abort>(
+    rt: &R,
+    alloc: Global,
+    folder: &str,
+    case: &Case,
+) -> Result<(), Fail> {
+    for named in case.after {
+        let name = named.0;
+        assert!(rt;
+            has_file(rt, alloc, folder, *named)?,
+            "{}: {name}",
+            case.name
+        );
+    }
+    let count = count_files(rt, alloc, folder)?;
+    assert!(rt;
+        count as usize == case.after.len(),
+        "{}: {count} files",
+        case.name
+    );
+    Ok(())
+}
+
+// Plays a case: the first start recovers the folder, and the second one does nothing.
+fn play<R: Files<File = File> + Abort>(rt: &R, alloc: Global, case: &Case) -> Result<(), Fail> {
+    let path = new_folder(rt, alloc)?;
+    for named in case.before {
+        make_file(rt, alloc, path.as_str(), *named)?;
+    }
+    let Ok(folder) = Folder::open(rt, alloc, path.as_str()) else {
+        panic!(rt; "{}: not opened", case.name);
+    };
+    let Ok(recovered) = folder.recover(rt, alloc) else {
+        panic!(rt; "{}: not recovered", case.name);
+    };
+    assert!(rt;
+        recovered.next == case.next,
+        "{}: {} is next",
+        case.name,
+        recovered.next
+    );
+    has_files(rt, alloc, path.as_str(), case)?;
+    drop(recovered);
+    drop(folder);
+    remove_folder(rt, alloc, path.as_str())
+}
+
+#[test]
+fn folders_that_kills_left_are_recovered(rt: HostRuntime) -> Result<(), Fail> {
+    for &case in &CASES {
+        play(&rt, rt.alloc(), &case)?;
+    }
+    Ok(())
+}
+
+// Wants that a start refuses a text of `books.csv`, and names this line.
+fn expect_refused<R: Files<File = File> + Abort>(
+    rt: &R,
+    alloc: Global,
+    text: &'static str,
+    line: u64,
+) -> Result<(), Fail> {
+    let path = new_folder(rt, alloc)?;
+    make_file(rt, alloc, path.as_str(), ("books.csv", text))?;
+    let Ok(folder) = Folder::open(rt, alloc, path.as_str()) else {
+        panic!(rt; "not opened");
+    };
+    let named = match folder.recover(rt, alloc) {
+        Err(NotRecovered::Line(number)) => number,
+        _ => 0,
+    };
+    assert!(rt; named == line, "line {named}, wanted {line}");
+    drop(folder);
+    remove_folder(rt, alloc, path.as_str())
+}
+
+#[test]
+fn lines_that_are_no_rows_are_refused(rt: HostRuntime) -> Result<(), Fail> {
+    for &(text, line) in &REFUSED {
+        expect_refused(&rt, rt.alloc(), text, line)?;
+    }
+    Ok(())
+}

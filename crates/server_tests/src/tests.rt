@@ -1,5 +1,6 @@
 //! Tests of a server beside its contracts.
 
+mod assertions;
 mod audit;
 mod control;
 mod faults;

@@ -1,5 +1,6 @@
 //! Folders that kills left, and what a start makes of them.
 
+use super::assertions::{holds, same};
 use super::books::{
     BAD_CSV, CSV, CUT_CSV, CUT_TEXT, NO_COLUMNS, NO_ROW, NO_RUN, REPORT, TARIFFS, TEXT, TWO_ROWS,
 };
@@ -146,19 +147,11 @@ fn has_files<R: Files<File = File> + Abort>(
     case: &Case,
 ) -> Result<(), Fail> {
     for named in case.after {
-        let name = named.0;
-        assert!(rt;
-            has_file(rt, alloc, folder, *named)?,
-            "{}: {name}",
-            case.name
-        );
+        let is_there = has_file(rt, alloc, folder, *named)?;
+        holds(rt, (case.name, named.0), is_there);
     }
     let count = count_files(rt, alloc, folder)?;
-    assert!(rt;
-        count as usize == case.after.len(),
-        "{}: {count} files",
-        case.name
-    );
+    same(rt, (case.name, "files"), count as usize, case.after.len());
     Ok(())
 }
 
@@ -174,12 +167,7 @@ fn play<R: Files<File = File> + Abort>(rt: &R, alloc: Global, case: &Case) -> Re
     let Ok(recovered) = folder.recover(rt, alloc) else {
         panic!(rt; "{}: not recovered", case.name);
     };
-    assert!(rt;
-        recovered.next == case.next,
-        "{}: {} is next",
-        case.name,
-        recovered.next
-    );
+    same(rt, (case.name, "next"), recovered.next, case.next);
     has_files(rt, alloc, path.as_str(), case)?;
     drop(recovered);
     drop(folder);
@@ -188,8 +176,8 @@ fn play<R: Files<File = File> + Abort>(rt: &R, alloc: Global, case: &Case) -> Re
 
 #[test]
 fn folders_that_kills_left_are_recovered(rt: HostRuntime) -> Result<(), Fail> {
-    for &case in &CASES {
-        play(&rt, rt.alloc(), &case)?;
+    for case in &CASES {
+        play(&rt, rt.alloc(), case)?;
     }
     Ok(())
 }
@@ -210,7 +198,7 @@ fn expect_refused<R: Files<File = File> + Abort>(
         Err(NotRecovered::Line(number)) => number,
         _ => 0,
     };
-    assert!(rt; named == line, "line {named}, wanted {line}");
+    same(rt, text, named, line);
     drop(folder);
     remove_folder(rt, alloc, path.as_str())
 }

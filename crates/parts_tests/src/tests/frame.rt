@@ -98,13 +98,18 @@ fn digit(byte: u8) -> u8 {
     }
 }
 
+fn byte_of(pair: &[u8]) -> u8 {
+    match pair {
+        [high, low] => digit(*high) << 4 | digit(*low),
+        _ => 0,
+    }
+}
+
 // The reading of bytes in hexadecimal, at most 20 of them.
 fn read_hex(version: Version, text: &str) -> FrameRead2 {
     let mut bytes = [0; 20];
     for (place, pair) in bytes.iter_mut().zip(text.as_bytes().chunks_exact(2)) {
-        if let [high, low] = pair {
-            *place = digit(*high) << 4 | digit(*low);
-        }
+        *place = byte_of(pair);
     }
     let count = text.len() / 2;
     read(version, bytes.get(..count).unwrap_or(&[]))

@@ -1,10 +1,12 @@
 //! The file of an audit, in a folder of its own.
 
 use crate::failing::{FailingFiles, Taken};
+use crate::tests::assertions::{holds, same};
 use share_base::{Command, Event, Name, Outcome, Reply, Version};
 use share_journal::{Entry, Journal, Source};
 use share_server::{AuditFile, Keep};
 use std::alloc::Global;
+use std::fmt::Debug;
 use std::fs;
 use std::fs::Files;
 use std::io::{Eprint, ErrorKind, Read};
@@ -37,8 +39,8 @@ fn in_folder(alloc: Global, folder: &str, name: &str) -> Result<String, Fail> {
     Ok(path)
 }
 
-// Whether the file of this path holds this text, or does not exist if that is `None`.
-fn holds<R: Files>(rt: &R, path: &str, text: Option<&str>) -> bool {
+// Whether the file of this path has this text, or does not exist if that is `None`.
+fn has_text<R: Files>(rt: &R, path: &str, text: Option<&str>) -> bool {
     let Ok(mut file) = fs::open(rt, path) else {
         return text.is_none();
     };
@@ -47,6 +49,11 @@ fn holds<R: Files>(rt: &R, path: &str, text: Option<&str>) -> bool {
         (Ok(count), Some(text)) if count <= 64 => &buffer[..count] == text.as_bytes(),
         _ => false,
     }
+}
+
+// The file of this path has this text, or does not exist if that is `None`.
+fn is_left<R: Files + Abort, N: Debug + Copy>(rt: &R, row: N, path: &str, text: Option<&str>) {
+    holds(rt, row, has_text(rt, path, text));
 }
 
 // An empty journal of version 2.
@@ -69,11 +76,11 @@ fn takes_the_name<R: Files + Eprint + Abort>(
     );
     let journal = empty(alloc)?;
     let audit = AuditFile::open(rt, alloc, path.as_str(), true)?;
-    assert!(rt; holds(rt, path.as_str(), old), "the old file is not there");
-    assert!(rt; holds(rt, beside.as_str(), Some("")), "no file beside");
+    is_left(rt, "the old file", path.as_str(), old);
+    is_left(rt, "a file beside", beside.as_str(), Some(""));
     audit.write(&journal)?;
-    assert!(rt; holds(rt, path.as_str(), Some(AUDIT)), "no audit");
-    assert!(rt; holds(rt, beside.as_str(), None), "the file beside is left");
+    is_left(rt, "the audit", path.as_str(), Some(AUDIT));
+    is_left(rt, "no file beside", beside.as_str(), None);
     Ok(())
 }
 
@@ -90,12 +97,12 @@ fn leaves_the_old<R: Files + Eprint + Abort>(
     let journal = empty(alloc)?;
     fs::write(rt, path.as_str(), OLD)?;
     drop(AuditFile::open(rt, alloc, path.as_str(), true)?);
-    assert!(rt; holds(rt, path.as_str(), Some(OLD)), "the old file is lost");
-    assert!(rt; holds(rt, beside.as_str(), None), "the file beside is left");
+    is_left(rt, "the old file", path.as_str(), Some(OLD));
+    is_left(rt, "no file beside", beside.as_str(), None);
     let audit = AuditFile::open(rt, alloc, path.as_str(), true)?;
     fs::remove_file(rt, beside.as_str())?;
-    assert!(rt; audit.write(&journal).is_err(), "the fault is not told");
-    assert!(rt; holds(rt, path.as_str(), Some(OLD)), "the old file is lost");
+    holds(rt, "a fault", audit.write(&journal).is_err());
+    is_left(rt, "the old file", path.as_str(), Some(OLD));
     Ok(())
 }
 
@@ -113,11 +120,8 @@ fn leaves_other_files<R: Files + Eprint + Abort>(
     fs::write(rt, taken.as_str(), OLD)?;
     let audit = AuditFile::open(rt, alloc, path.as_str(), true)?;
     audit.write(&journal)?;
-    assert!(rt; holds(rt, path.as_str(), Some(AUDIT)), "no audit");
-    assert!(rt;
-        holds(rt, taken.as_str(), Some(OLD)),
-        "another file is lost"
-    );
+    is_left(rt, "the audit", path.as_str(), Some(AUDIT));
+    is_left(rt, "the other file", taken.as_str(), Some(OLD));
     Ok(())
 }
 
@@ -134,9 +138,9 @@ fn replaces_by_force_alone<R: Files + Eprint + Abort>(
     let journal = empty(alloc)?;
     let audit = AuditFile::open(rt, alloc, path.as_str(), false)?;
     fs::write(rt, path.as_str(), OLD)?;
-    assert!(rt; audit.write(&journal).is_err(), "the fault is not told");
-    assert!(rt; holds(rt, path.as_str(), Some(OLD)), "a file is lost");
-    assert!(rt; holds(rt, beside.as_str(), Some(AUDIT)), "no audit");
+    holds(rt, "a fault", audit.write(&journal).is_err());
+    is_left(rt, "the file that came", path.as_str(), Some(OLD));
+    is_left(rt, "the audit", beside.as_str(), Some(AUDIT));
     Ok(())
 }
 
@@ -154,12 +158,13 @@ fn writes_in_place<R: Files + Eprint + Abort>(
     fs::write(rt, path.as_str(), OLD)?;
     rt.symlink(path.as_str(), link.as_str())?;
     let audit = AuditFile::open(rt, alloc, link.as_str(), true)?;
-    assert!(rt; holds(rt, path.as_str(), Some(OLD)), "the old file is lost");
+    is_left(rt, "the old file", path.as_str(), Some(OLD));
     audit.write(&journal)?;
-    assert!(rt; holds(rt, path.as_str(), Some(AUDIT)), "no audit");
-    assert!(rt;
+    is_left(rt, "the audit", path.as_str(), Some(AUDIT));
+    holds(
+        rt,
+        "a folder is refused",
         AuditFile::open(rt, alloc, folder, true).is_err(),
-        "a folder is no file"
     );
     Ok(())
 }
@@ -274,17 +279,11 @@ fn faults_leave_the_old<R: Files + Eprint + Abort>(
             fs::write(rt, path.as_str(), text)?;
         }
         let told = is_told(rt, alloc, path.as_str(), journal, taken, is_renamed);
-        assert!(rt; told == is_written, "row {number} is told another way");
+        same(rt, (number, "is told"), told, is_written);
         let left = if is_written { Some(AUDIT) } else { old };
-        assert!(rt;
-            holds(rt, path.as_str(), left),
-            "row {number} leaves another file"
-        );
+        is_left(rt, (number, "the file"), path.as_str(), left);
         let beside_it = if is_renamed { None } else { Some(AUDIT) };
-        assert!(rt;
-            holds(rt, beside.as_str(), beside_it),
-            "row {number} leaves another file beside"
-        );
+        is_left(rt, (number, "the file beside"), beside.as_str(), beside_it);
         let _ = fs::remove_file(rt, beside.as_str());
     }
     Ok(())
@@ -310,11 +309,8 @@ fn faults_leave_a_beginning<R: Files + Eprint + Abort>(
         fs::write(rt, path.as_str(), OLD)?;
         let told = is_told(rt, alloc, link.as_str(), journal, taken, is_renamed);
         let wanted = is_written || !is_renamed;
-        assert!(rt; told == wanted, "row {number} is told another way");
-        assert!(rt;
-            holds(rt, path.as_str(), Some(text)),
-            "row {number} leaves another text"
-        );
+        same(rt, (number, "is told"), told, wanted);
+        is_left(rt, (number, "the text"), path.as_str(), Some(text));
     }
     Ok(())
 }

@@ -3,6 +3,7 @@ ghost use Rattle.std.specs.Prelude.{◌≡◌, ◌≤◌, [], length};
 ghost use Rattle.share_base.specs.declared.version.Version.TheVariants.{Two};
 
 use crate::failing::{Taken, Taking};
+use crate::tests::assertions::{holds, same};
 use crate::tests::made::{offers, recording};
 use running_tests::ByByte;
 use share_control::{Attended, How, attend};
@@ -391,10 +392,7 @@ where
     let entries = entries_of(rt, &port);
     drop(port);
     let receipts = clerk.receipts().len();
-    assert!(rt;
-        entries == receipts as u64,
-        "the journal has other commands"
-    );
+    same(rt, "entries", entries, receipts as u64);
     drop(clerk);
     (how, receipts)
 }
@@ -417,11 +415,11 @@ fn is_unwritten<T: Wait, S: Rates, L: LinkBrand>(rt: &T, port: &Port<Tape, S, L>
 // Checks that the next offer in the queue of a link is the n-th of its worker.
 fn admits<T: Wait + Abort, S: Rates, L: LinkBrand>(rt: &T, port: &Port<Tape, S, L>, wanted: u64) {
     let found = port.lock(rt).admit(rt);
-    let is_next = match &found {
-        Admit::Admitted { n, .. } => *n == wanted,
-        _ => false,
+    let number = match &found {
+        Admit::Admitted { n, .. } => Some(*n),
+        _ => None,
     };
-    assert!(rt; is_next, "offer {wanted}: {found:?}");
+    same(rt, "an offer", number, Some(wanted));
 }
 
 // Checks that lines make commands and nothing else of a link with a frame to send and an offer in its queue.
@@ -459,16 +457,11 @@ where
         whole(ALL_KINDS),
         &mut written,
     );
-    assert!(rt;
-        totals_of(rt, &port) == before,
-        "a turn was made, or an arrival"
-    );
-    assert!(rt; is_unwritten(rt, &port), "something was written");
-    assert!(rt; entries_of(rt, &port) == 7, "there are other entries");
-    assert!(rt;
-        asked.clerk.receipts().len() == 6,
-        "there are other commands"
-    );
+    let is_left = totals_of(rt, &port) == before;
+    holds(rt, "no turn and no arrival", is_left);
+    holds(rt, "nothing is written", is_unwritten(rt, &port));
+    same(rt, "entries", entries_of(rt, &port), 7);
+    same(rt, "commands", asked.clerk.receipts().len(), 6);
     admits(rt, &port, 2);
     drop(asked);
     drop(port);
@@ -505,8 +498,8 @@ fn are_answered<T: Wait + Abort, S: Rates + Copy>(
     for &(bytes, want, commands) in &CONVERSATIONS {
         let mut written = Vec::new(alloc);
         let ended = answered(rt, alloc, shelf, whole(bytes), &mut written);
-        assert_eq!(rt; ended, (How::End, commands));
-        assert_eq!(rt; written.as_slice(), want);
+        same(rt, bytes, ended, (How::End, commands));
+        same(rt, bytes, written.as_slice(), want);
     }
     Ok(())
 }
@@ -532,7 +525,7 @@ fn is_cut<T: Wait + Abort, S: Rates + Copy>(
             let ended = answered(rt, alloc, shelf, asked, &mut written);
             written.retain(|byte| *byte != b'|');
             let right = ended == (how, commands) && written.as_slice() == want;
-            assert!(rt; right, "{cut} bytes, {most} a read");
+            holds(rt, (cut, most, how), right);
             drop(written);
         }
     }
@@ -557,7 +550,7 @@ fn answers_go_out_once<T: Wait + Abort, S: Rates + Copy>(rt: &T, alloc: Global, 
         };
         let ended = answered(rt, alloc, shelf, asked, &mut written);
         let right = ended == (how, commands) && written.as_slice() == want;
-        assert!(rt; right, "row {number}");
+        holds(rt, number, right);
         drop(written);
     }
 }
@@ -575,7 +568,7 @@ fn short_writes_go_on<T: Wait + Abort, S: Rates + Copy>(rt: &T, alloc: Global, s
         let ended = answered(rt, alloc, shelf, asked, &mut written);
         written.retain(|byte| *byte != b'|');
         let right = ended == (How::End, 3) && written.as_slice() == want;
-        assert!(rt; right, "{most} bytes a call");
+        holds(rt, (most, "bytes a call"), right);
         drop(written);
     }
 }
@@ -598,7 +591,7 @@ fn is_no_request<T: Wait + Abort, S: Rates + Copy>(
     let asked = whole(lines.as_slice());
     let ended = answered(rt, alloc, shelf, asked, &mut written);
     let right = ended == (How::End, 1) && written.as_slice() == b"no 3 Syntax\nok\n|".as_slice();
-    assert!(rt; right, "{more} bytes more");
+    holds(rt, (more, "bytes more"), right);
     Ok(())
 }
 
@@ -630,11 +623,9 @@ fn spent_lives_are_told<T: Wait + Abort, S: Rates + Copy>(
         ..whole(b"mkcur x\nmkcur y\ntorn\n")
     };
     let (how, receipts) = answered(rt, alloc, shelf, asked, &mut written);
-    assert_eq!(rt; (how, receipts), (How::End, 1));
-    assert_eq!(rt;
-        written.as_slice(),
-        b"ok\nno 2 Spent\nno 3 Syntax\n|".as_slice()
-    );
+    same(rt, "a spent life", (how, receipts), (How::End, 1));
+    let wanted = b"ok\nno 2 Spent\nno 3 Syntax\n|".as_slice();
+    same(rt, "a spent life", written.as_slice(), wanted);
     Ok(())
 }
 
@@ -654,7 +645,7 @@ fn answers_are_written_outside_of_holds<T: Wait + Abort, S: Rates + Copy>(
     }
     let mut written = Vec::new(alloc);
     let (how, _) = answered(rt, alloc, shelf, whole(lines.as_slice()), &mut written);
-    assert_eq!(rt; how, How::End);
+    same(rt, "many answers", how, How::End);
     Ok(())
 }
 
@@ -673,8 +664,8 @@ fn lost_clients_are_not_obeyed<T: Wait + Abort, S: Rates + Copy>(
         ..whole(lines.as_slice())
     };
     let ended = answered(rt, alloc, shelf, asked, &mut written);
-    assert_eq!(rt; ended, (How::WriteFault, 0));
-    assert!(rt; written.is_empty(), "something was written");
+    same(rt, "a lost client", ended, (How::WriteFault, 0));
+    holds(rt, "nothing is written", written.is_empty());
     Ok(())
 }
 

@@ -1,5 +1,6 @@
 //! The text of each fault of the server, and of its reason.
 
+use crate::tests::assertions::holds;
 use share_server::{Reason, RunFault, ServeFault};
 use std::alloc::Global;
 use std::io::{Error, ErrorKind};
@@ -44,7 +45,7 @@ fn is_shown(alloc: Global, fault: RunFault, text: &str) -> bool {
 #[test]
 fn faults_have_their_texts(rt: HostRuntime) {
     for &(kind, text) in &FAULTS {
-        assert!(rt; is_shown(rt.alloc(), RunFault::from(kind), text), "{text}");
+        holds(&rt, text, is_shown(rt.alloc(), RunFault::from(kind), text));
     }
 }
 
@@ -52,17 +53,13 @@ fn faults_have_their_texts(rt: HostRuntime) {
 fn faults_have_their_reasons(rt: HostRuntime) {
     for &(kind, number, text) in &NUMBERED {
         let reason = Some(Reason(Error::from_raw_os_error(number)));
-        assert!(rt;
-            is_shown(rt.alloc(), RunFault { kind, reason }, text),
-            "{text}"
-        );
+        let fault = RunFault { kind, reason };
+        holds(&rt, text, is_shown(rt.alloc(), fault, text));
     }
     let late = RunFault {
         kind: ServeFault::Uplink,
         reason: Some(Reason(Error::from(ErrorKind::TimedOut))),
     };
-    assert!(rt;
-        is_shown(rt.alloc(), late, "the uplink failed: timed out"),
-        "an uplink that is ended"
-    );
+    let is_late = is_shown(rt.alloc(), late, "the uplink failed: timed out");
+    holds(&rt, "an uplink that is ended", is_late);
 }

@@ -2,6 +2,7 @@
 ghost use Rattle.std.specs.Prelude.{◌≡◌, []};
 ghost use Rattle.share_base.specs.declared.version.Version.TheVariants.{Two};
 
+use crate::tests::assertions::holds;
 use share_base::{Name, Parcel, Version};
 use share_core::Engine;
 use share_ingress::{IngressEnd, Offered};
@@ -36,6 +37,6 @@ pub(super) fn offers<T: Wait + Abort>(rt: &T, alloc: Global, end: &mut IngressEn
     let name = Name::read(b"a").expect(rt, "a name");
     let parcel = Parcel::new(alloc, b"x").expect(rt, "a payload");
     let offered = end.offer(rt, name, parcel);
-    assert!(rt; matches!(&offered, Offered::Queued(_)), "the queue is full");
+    holds(rt, "an offer", matches!(&offered, Offered::Queued(_)));
     drop(offered);
 }

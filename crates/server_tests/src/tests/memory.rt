@@ -2,6 +2,7 @@
 //! thread. Requests are refused by the allocator of `.ci/allocator.c` alone, with which `.ci/memory` runs this test;
 //! with any other one server runs and ends.
 
+use crate::tests::assertions::same;
 use crate::tests::serving::{InMemory, PLAN, journal_of, open_sockets};
 use running_tests::ByByte;
 use share_base::Version;
@@ -68,17 +69,14 @@ fn servers_run_once_their_memory_is_found(rt: HostRuntime) {
     for request in 1..REQUESTS {
         let (served, was_refused, is_silent) = serves(&rt, rt.alloc(), request);
         if !was_refused {
-            assert!(&rt; served == Ok(()), "{served:?}");
+            same(&rt, request, served, Ok(()));
             return;
         }
         if !is_silent {
-            assert!(&rt; served == Err(ServeFault::Thread), "{request}: {served:?}");
+            same(&rt, request, served, Err(ServeFault::Thread));
             return;
         }
-        assert!(&rt;
-            served == Err(ServeFault::NoMemory),
-            "{request}: {served:?}"
-        );
+        same(&rt, request, served, Err(ServeFault::NoMemory));
     }
     panic!(&rt; "no thread is started");
 }

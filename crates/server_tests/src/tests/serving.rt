@@ -1,5 +1,6 @@
 //! Servers with both ends of their connections in one process.
 
+use crate::tests::assertions::{holds, same};
 use running_tests::ByByte;
 use share_base::{Event, Version};
 use share_core::Engine;
@@ -325,14 +326,19 @@ fn audit_gives_the_link<S: Rates + Copy>(
 ) {
     let engine = link_of(rt, alloc, shelf, audit);
     let mut shown = Tape::new(alloc);
-    assert!(rt; report(&engine, &mut shown).is_ok());
-    assert!(rt;
+    holds(rt, (play, "a report"), report(&engine, &mut shown).is_ok());
+    holds(
+        rt,
+        (play, "the report of the audit"),
         shown.bytes() == reported,
-        "another report than the audit's"
     );
-    assert!(rt; engine.broken() == (play == Play::Torn), "after {play:?}");
-    assert!(rt; are_frames(play, engine.writer().bytes()), "other frames");
-    assert!(rt; is_audit(play, audit), "another audit");
+    same(rt, play, engine.broken(), play == Play::Torn);
+    holds(
+        rt,
+        (play, "frames"),
+        are_frames(play, engine.writer().bytes()),
+    );
+    holds(rt, (play, "the audit"), is_audit(play, audit));
     drop(shown);
     drop(engine);
 }
@@ -452,11 +458,8 @@ where
     let mut audit = Tape::new(alloc);
     let mut report = Tape::new(alloc);
     let served = serve(rt, alloc, shelf, journal, sockets, &mut audit, &mut report);
-    assert!(rt; served == wanted(play), "after {play:?}");
-    assert!(rt;
-        clients.join(rt),
-        "the clients and the peer got what they should"
-    );
+    same(rt, play, served, wanted(play));
+    holds(rt, (play, "clients and the peer"), clients.join(rt));
     audit_gives_the_link(rt, alloc, again, play, audit.bytes(), report.bytes());
     drop(audit);
     drop(report);
@@ -483,9 +486,9 @@ where
     let mut audit = Tape::new(alloc);
     let mut report = Tape::new(alloc);
     let served = serve(rt, alloc, shelf, journal, sockets, &mut audit, &mut report);
-    assert!(rt; served == Err(ServeFault::Mismatch), "it was served");
+    same(rt, "version 1", served, Err(ServeFault::Mismatch));
     let none = audit.bytes().is_empty() && report.bytes().is_empty();
-    assert!(rt; none, "something was kept or shown");
+    holds(rt, "nothing is kept or shown", none);
     drop(peer);
     drop(audit);
     drop(report);
@@ -560,11 +563,8 @@ where
         OfWorkers,
         &mut report,
     );
-    assert!(rt; served.is_ok(), "two connections: {served:?}");
-    assert!(rt;
-        clients.join(rt),
-        "the clients and the peer got what they should"
-    );
+    holds(rt, "two connections", served.is_ok());
+    holds(rt, "clients and the peer", clients.join(rt));
     drop(report);
 }
 

@@ -3,6 +3,7 @@
 ghost use Rattle.std.specs.Prelude.{◌≡◌, []};
 ghost use Rattle.share_base.specs.declared.version.Version.TheVariants.{Two};
 
+use crate::tests::assertions::same;
 use crate::tests::made::{offers, recording};
 use running_tests::ByByte;
 use share_ingress::{IngressEnd, Intake, queue};
@@ -109,9 +110,9 @@ where
     let port = Mutex::new(Locked::<Tape, S, L>::new(recorder, intake));
     for number in 0..STOPS {
         let ended = is_stopped(rt, alloc, &port, &mut end, number % MOMENTS);
-        assert!(rt; ended == LinkEnd::Drained, "stop {number}");
+        same(rt, number, ended, LinkEnd::Drained);
         let left = port.lock(rt).admit(rt);
-        assert!(rt; left == Admit::Empty, "stop {number} leaves an offer");
+        same(rt, (number, "an offer"), left, Admit::Empty);
     }
     drop(port);
     drop(end);
@@ -195,10 +196,7 @@ where
                 },
             )
         };
-        assert!(rt;
-            (end, seen) == wanted,
-            "request {request}: {end:?}, {seen:?}"
-        );
+        same(rt, request, (end, seen), wanted);
         if !was_refused {
             break;
         }

@@ -162,15 +162,20 @@ fn an_item_is_given_once_memory_for_its_payload_is_found(rt: HostRuntime) {
     panic!(rt; "there is none for good");
 }
 
+// Adds a record for the flow a, with a payload of that many bytes.
+fn add_record(rt: &impl Abort, bytes: &mut Vec<u8>, size: u16) {
+    let [high, low] = size.to_be_bytes();
+    let header = [1, 97, high, low];
+    holds(rt, size, bytes.extend_from_slice(&header).is_ok());
+    let length = bytes.len().saturating_add(usize::from(size));
+    holds(rt, size, bytes.resize(length, 7).is_ok());
+}
+
 // Records for the flow a, with payloads of 5000 and of 8000 bytes.
 fn two_long(rt: &impl Abort, alloc: Global) -> Vec<u8> {
     let mut bytes = Vec::new(alloc);
     for size in [5000, 8000] {
-        let length = bytes.len().saturating_add(size);
-        for byte in [1, 97, (size / 256) as u8, (size % 256) as u8] {
-            assert!(rt; bytes.push(byte).is_ok());
-        }
-        assert!(rt; bytes.resize(length.saturating_add(4), 7).is_ok());
+        add_record(rt, &mut bytes, size);
     }
     bytes
 }
@@ -212,16 +217,25 @@ impl Gate for Impatient {
     }
 }
 
-fn one_item_each(rt: &impl Abort, alloc: Global) -> Vec<Job<ScriptedReader<'static>, Impatient>> {
-    let (_intake, mut ends) = queue(alloc, 2, 2).expect(rt, "a queue");
+type OneItem = Job<ScriptedReader<'static>, Impatient>;
+
+fn one_item(rt: &impl Abort, alloc: Global, end: IngressEnd) -> OneItem {
+    Job {
+        reader: reader(rt, alloc, one_record(alloc), 100),
+        end,
+        gate: Impatient,
+    }
+}
+
+fn add_job(rt: &impl Abort, jobs: &mut Vec<OneItem>, job: OneItem) {
+    holds(rt, "memory", jobs.push(job).is_ok());
+}
+
+fn one_item_each(rt: &impl Abort, alloc: Global) -> Vec<OneItem> {
+    let (_intake, ends) = queue(alloc, 2, 2).expect(rt, "a queue");
     let mut jobs = Vec::with_capacity(alloc, 2).expect(rt, "memory");
-    for _ in 0..2 {
-        let job = Job {
-            reader: reader(rt, alloc, one_record(alloc), 100),
-            end: ends.pop().expect(rt, "an end"),
-            gate: Impatient,
-        };
-        assert!(rt; jobs.push(job).is_ok());
+    for end in ends {
+        add_job(rt, &mut jobs, one_item(rt, alloc, end));
     }
     jobs
 }

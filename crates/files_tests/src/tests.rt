@@ -1,5 +1,7 @@
-//! Files of a gateway, right and wrong, their plans, and files that are read again beside what a gateway has. Worked rows
-//! of books on disk: what is read and written, and which steps a close and a recovery make, also in folders of books.
+//! Files of a gateway, right and wrong, their plans, and files that are read again beside what a gateway has.
+//!
+//! Worked rows of books on disk: what is read and written. Folders of books, in which a close and a recovery make their
+//! steps.
 
 mod assertions;
 mod books;

@@ -1,4 +1,4 @@
-//! What tests of the ingress side are made of.
+//! Readers, queues and offers that the tests of the ingress side use.
 ghost use Rattle.std.specs.Prelude.{◌≡◌};
 
 use crate::readers::RECORD;

@@ -7,6 +7,7 @@ gatewaying.py). Arguments name the cases to play; without any, all are played. E
 gateway. Each case ends by itself. All of them take two minutes on an idle machine, and fifteen at most.
 """
 import contextlib
+import select
 import socket
 import struct
 import sys
@@ -56,9 +57,9 @@ class Receiver:
     """A connection to a port of a tenant at the far end: the records that come on it, by the numbers of their packets.
     The name of each record has to be the tenant's."""
 
-    def __init__(self, gateway, name):
+    def __init__(self, gateway, name, connection=None):
         self.name = name.encode()
-        self.connection = gateway.connect(name)
+        self.connection = connection or gateway.connect(name)
         self.connection.settimeout(None)
         self.numbers = []
         self.bytes = 0
@@ -125,8 +126,8 @@ def datagram_port():
         return picked.getsockname()[1]
 
 
-def far_gateway(run, tenants, kind="tcp", lines=(), uplink=None, **sections):
-    """A gateway with a downlink. It has an uplink only if the address of one is given."""
+def far_gateway(run, tenants, kind="tcp", lines=(), uplink=None, descriptors=(), **sections):
+    """A gateway with a downlink, which was given descriptors. It has an uplink only if the address of one is given."""
     gateway = run.prepared(uplink or 1, tenants, **sections)
     if uplink is None:
         del gateway.sections["uplink"]
@@ -135,7 +136,7 @@ def far_gateway(run, tenants, kind="tcp", lines=(), uplink=None, **sections):
     gateway.listens = address_of(port) if kind == "tcp" else f"udp:{LOOPBACK}:{port}"
     gateway.sections["downlink"] = [f'listen = "{gateway.listens}"', *lines]
     gateway.write()
-    return gateway.start()
+    return gateway.start(pass_fds=descriptors)
 
 
 def near_gateway(run, far, tenants, rate=None):
@@ -480,7 +481,8 @@ def from_one_address(run):
 
 
 def one_reads_nothing(run):
-    """A client that reads nothing loses its records, which are counted. The others get all of theirs."""
+    """A client that reads nothing loses its records, which are counted. The others get all of theirs. If it reads, its
+    records are whole and in order, and the next one comes."""
     far = far_gateway(run, {"a": 1, "b": 1})
     silent = run.keep(far.connect("b"))
     received = run.keep(Receiver(far, "a"))
@@ -488,7 +490,8 @@ def one_reads_nothing(run):
     size, sent = 9000, 0
     while far.tenant("b")["lost"] == 0:
         expect(sent < 20000, "nothing is lost")
-        connection.sendall(frame_of(sent, 2, size) * 8 + frame_of(sent // 8, 1))
+        connection.sendall(b"".join(frame_of(number, 2, size) for number in range(sent, sent + 8)))
+        connection.sendall(frame_of(sent // 8, 1))
         sent += 8
         received.wait_for(sent // 8)
     received.expect_all(sent // 8)
@@ -496,20 +499,57 @@ def one_reads_nothing(run):
     expect_equal(found["tenants"][0]["lost"], 0, "packets that the other tenant lost")
     expect_equal(found["downlink"]["frames"], sent + sent // 8, "frames")
     silent.settimeout(PATIENCE)
-    lost, whole = found["tenants"][1]["lost"], len(records("b", [0], size))
-    expect(len(take_all(silent, whole * (sent - lost))) == whole * (sent - lost), "whole records of the silent client")
+    came = sent - found["tenants"][1]["lost"]
+    late = run.keep(Receiver(far, "b", silent))
+    late.wait_for(came)
+    connection.sendall(frame_of(sent, 2, size))
+    late.wait_for(came + 1)
+    late.expect_in_order()
+    expect_equal((len(late.numbers), late.numbers[-1]), (came + 1, sent), "records of the silent client, and the last")
     far.end()
 
 
-def take_all(connection, count):
-    """Reads that many bytes."""
-    got = bytearray()
-    while len(got) < count:
-        piece = connection.recv(1 << 18)
-        if not piece:
-            break
-        got += piece
-    return bytes(got)
+def datagram_socket(run):
+    """A socket for datagrams with an address of its own."""
+    own = run.keep(socket.socket(socket.AF_INET, socket.SOCK_DGRAM))
+    own.bind((LOOPBACK, 0))
+    own.settimeout(PATIENCE)
+    return own
+
+
+def give(connection, number, ends, others):
+    """Sends the frame of a packet to a downlink. Each of these sockets gets the packet once, and none of the others."""
+    connection.sendall(frame_of(number))
+    for each in ends:
+        expect_equal(each.recv(65536), packet(number), "a packet")
+    expect(not select.select([*ends, *others], [], [], STILL)[0], "a packet more comes")
+
+
+def packet_ports(run):
+    """A packet goes to the last sender of a `udp:` port, from a `udp-to:` port to its address, and to a descriptor. A
+    `udp:` port without a sender loses it, and so does a tenant without a connection."""
+    peer, first, second = (datagram_socket(run) for _ in range(3))
+    ours, its = socket.socketpair(socket.AF_UNIX, socket.SOCK_SEQPACKET)
+    device = run.keep(ours)
+    device.settimeout(PATIENCE)
+    port = datagram_port()
+    ports = [f"udp:{LOOPBACK}:{port}", "udp-to:%s:%d" % peer.getsockname(), f"fd:{its.fileno()}"]
+    far = far_gateway(run, {"a": Tenant([1], ports=ports), "b": 1}, descriptors=[run.keep(its).fileno()])
+    its.close()
+    connection = raw(run, far)
+    give(connection, 0, [peer, device], [first, second])
+    connection.sendall(frame_of(0, 2))
+    wait_for_counts(far, 2)
+    expect_equal([tenant["lost"] for tenant in far.status()["tenants"]], [1, 1], "packets that are lost")
+    for number, (sender, other) in enumerate(((first, second), (second, first)), 1):
+        sender.sendto(b"here", (LOOPBACK, port))
+        wait_for(lambda: far.tenant("a")["dropped"] == number, "a packet that is dropped")
+        give(connection, number, [sender, peer, device], [other])
+    device.close()
+    wait_for(lambda: far.messages("closed"), "a line about a port that is closed")
+    give(connection, 3, [second, peer], [first])
+    expect_equal(far.tenant("a")["lost"], 1, "packets that are lost in all")
+    far.end()
 
 
 def datagrams(run):
@@ -592,7 +632,7 @@ def idle(run):
 
 CASES = (pair_over_tcp, pair_over_udp, tunnel, shares_over_tcp, shares_over_udp, far_end_comes_back, frames_in_pieces,
          forged_frames, version_one, cut_frames, strangers, replaced, many_wait, from_one_address, one_reads_nothing,
-         datagrams, uplink_of_datagrams, nothing_is_taken, idle)
+         packet_ports, datagrams, uplink_of_datagrams, nothing_is_taken, idle)
 
 
 def main():

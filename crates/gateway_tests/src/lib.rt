@@ -1,5 +1,5 @@
 //! Tests of a gateway's core, over the public calls of share_gateway, share_book, share_transit, share_orders and
-//! share_lives, and of share_doors and share_downlink, over sockets of their own.
+//! share_lives.
 #![tactic(auto)]
 
 #[cfg(test)]

@@ -110,11 +110,8 @@ fn turns_once(rt: &impl Abort, text: &Text, book: &mut Book<Four>, outbox: &mut 
     same(rt, text.first, book.turn(outbox), wrote);
     sends(rt, text.first, outbox, FRAME.as_slice());
     counts(rt, text.first, book);
-    holds(
-        rt,
-        text.first,
-        is_text(book.text(), text.first, OPENING, text.lines),
-    );
+    let is_so = is_text(book.text(), text.first, OPENING, text.lines);
+    holds(rt, text.first, is_so);
 }
 
 // Two packets of a and one of b come, and one turn is made.
@@ -130,8 +127,8 @@ fn works(rt: &impl Abort, alloc: Global, text: &Text, outbox: &mut Outbox) {
 #[test]
 fn a_book_is_its_events_and_their_lines(rt: HostRuntime) {
     let mut outbox = Outbox::new(rt.alloc()).ok().expect(&rt, "an outbox");
-    for at in 0..TEXTS.len() {
-        works(&rt, rt.alloc(), &TEXTS[at], &mut outbox);
+    for text in &TEXTS {
+        works(&rt, rt.alloc(), text, &mut outbox);
     }
     drop(outbox);
 }
@@ -163,71 +160,32 @@ pub(super) fn amend(book: &mut Book<Four>, name: Name, number: u64, amount: u64)
 // Holds and resumes have these answers.
 fn holds_and_resumes(rt: &impl Abort, book: &mut Book<Four>) {
     let (a, b, z) = (named(rt, "a"), named(rt, "b"), named(rt, "z"));
+    let held = Reply::Refused(Refusal::Held);
+    let no_flow = Reply::Refused(Refusal::NoFlow);
     same(rt, "hold a", hold(book, a), Some(Reply::Done));
-    same(
-        rt,
-        "hold b",
-        hold(book, b),
-        Some(Reply::Refused(Refusal::Held)),
-    );
+    same(rt, "hold b", hold(book, b), Some(held));
     same(rt, "resume b", resume(book, b), Some(Reply::Done));
-    same(
-        rt,
-        "hold z",
-        hold(book, z),
-        Some(Reply::Refused(Refusal::NoFlow)),
-    );
+    same(rt, "hold z", hold(book, z), Some(no_flow));
 }
 
-// An amend, and why it is refused, if it is.
-#[derive(Clone, Copy)]
-struct AmendRow {
-    name: &'static str,
-    number: u64,
-    amount: u64,
-    refusal: Option<Refusal>,
-}
-
-static AMENDS: [AmendRow; 5] = [
-    AmendRow {
-        name: "x",
-        number: 1,
-        amount: 500,
-        refusal: None,
-    },
-    AmendRow {
-        name: "b",
-        number: 1,
-        amount: 7,
-        refusal: None,
-    },
-    AmendRow {
-        name: "b",
-        number: 1,
-        amount: 0,
-        refusal: Some(Refusal::Range),
-    },
-    AmendRow {
-        name: "b",
-        number: 2,
-        amount: 7,
-        refusal: Some(Refusal::NoTicket),
-    },
-    AmendRow {
-        name: "z",
-        number: 1,
-        amount: 7,
-        refusal: Some(Refusal::NoCurrency),
-    },
+/// Amends: the name, the number of the grant, the amount, and why it is refused, if it is.
+static AMENDS: [(&str, u64, u64, Option<Refusal>); 5] = [
+    ("x", 1, 500, None),
+    ("b", 1, 7, None),
+    ("b", 1, 0, Some(Refusal::Range)),
+    ("b", 2, 7, Some(Refusal::NoTicket)),
+    ("z", 1, 7, Some(Refusal::NoCurrency)),
 ];
 
-fn amends(rt: &impl Abort, book: &mut Book<Four>, row: &AmendRow) {
-    let wanted = match row.refusal {
-        None => Reply::Done,
-        Some(refusal) => Reply::Refused(refusal),
-    };
-    let reply = amend(book, named(rt, row.name), row.number, row.amount);
-    same(rt, (row.name, row.number), reply, Some(wanted));
+fn amends(rt: &impl Abort, book: &mut Book<Four>) {
+    for &(name, number, amount, refusal) in &AMENDS {
+        let wanted = match refusal {
+            None => Reply::Done,
+            Some(refusal) => Reply::Refused(refusal),
+        };
+        let reply = amend(book, named(rt, name), number, amount);
+        same(rt, (name, number, amount), reply, Some(wanted));
+    }
 }
 
 // The amount of the first grant of the first currency.
@@ -255,18 +213,11 @@ fn is_changed(rt: &impl Abort, book: &Book<Four>) {
 #[test]
 fn changes_are_events_and_change_the_plan(rt: HostRuntime) {
     let mut book = opened(&rt, rt.alloc(), true, TextKind::Whole);
-    let lines = book.text().strip_prefix(b"audit 2\n".as_slice());
-    let lines = lines.and_then(|lines| lines.strip_prefix(OPENING.as_bytes()));
-    holds(
-        &rt,
-        "the opening",
-        lines.is_some_and(|lines| lines == b"hold b\n".as_slice()),
-    );
+    let is_so = is_text(book.text(), "audit 2\n", OPENING, "hold b\n");
+    holds(&rt, "the opening", is_so);
     drain(&mut book);
     holds_and_resumes(&rt, &mut book);
-    for at in 0..AMENDS.len() {
-        amends(&rt, &mut book, &AMENDS[at]);
-    }
+    amends(&rt, &mut book);
     let lines = b"hold a\nhold b\nresume b\nhold z\namend 1 500\namend 3 7\namend 3 0\n";
     holds(&rt, "lines", book.text() == lines.as_slice());
     is_changed(&rt, &book);

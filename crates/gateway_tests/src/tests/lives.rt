@@ -63,7 +63,7 @@ fn begun(rt: &impl Abort, alloc: Global, row: &'static str) -> Life {
     let settings = settings(rt, alloc);
     let mut life = Life::begin(alloc, &settings).ok().expect(rt, "a life");
     drop(settings);
-    for tenant in ["a", "a", "a", "b", "b"] {
+    for &tenant in &["a", "a", "a", "b", "b"] {
         takes(rt, alloc, row, &mut life, tenant);
     }
     life

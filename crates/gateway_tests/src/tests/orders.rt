@@ -1,5 +1,6 @@
 //! Control lines, what they do to a book, and the texts of replies.
 
+use self::Want::{Asks, Done, Refused, Waits};
 use super::assertions::{holds, same};
 use super::books::opened;
 use share_base::{Refusal, Reply};
@@ -8,89 +9,76 @@ use share_orders::{Duty, Obeyed, book_text, fault_text, obey_line, reply_text, r
 use std::alloc::Global;
 use std::process::Abort;
 
-/// Lines on one book, one after the other, and what becomes of each while the disk writes and while it fails.
-const LINES: [(&str, Obeyed); 22] = [
-    ("report", Obeyed::Asks(Duty::Report)),
-    ("status", Obeyed::Asks(Duty::Status)),
-    ("hold a", Obeyed::Replied(Reply::Done)),
-    ("hold a", Obeyed::Replied(Reply::Refused(Refusal::Held))),
-    ("hold z", Obeyed::Replied(Reply::Refused(Refusal::NoFlow))),
-    ("resume a", Obeyed::Replied(Reply::Done)),
-    (
-        "resume a",
-        Obeyed::Replied(Reply::Refused(Refusal::NotHeld)),
-    ),
-    ("amend x 1 500", Obeyed::Replied(Reply::Done)),
-    ("amend b 1 7", Obeyed::Replied(Reply::Done)),
-    (
-        "amend x 2 5",
-        Obeyed::Replied(Reply::Refused(Refusal::NoTicket)),
-    ),
-    (
-        "amend x 0 5",
-        Obeyed::Replied(Reply::Refused(Refusal::NoTicket)),
-    ),
-    (
-        "amend y 1 5",
-        Obeyed::Replied(Reply::Refused(Refusal::NoCurrency)),
-    ),
-    (
-        "amend a 1 0",
-        Obeyed::Replied(Reply::Refused(Refusal::Range)),
-    ),
-    (
-        "amend a 01 5",
-        Obeyed::Replied(Reply::Refused(Refusal::Syntax)),
-    ),
-    (
-        "amend a 1",
-        Obeyed::Replied(Reply::Refused(Refusal::Syntax)),
-    ),
-    (
-        "report now",
-        Obeyed::Replied(Reply::Refused(Refusal::Syntax)),
-    ),
-    ("hold  a", Obeyed::Replied(Reply::Refused(Refusal::Syntax))),
-    (
-        "send a 61",
-        Obeyed::Replied(Reply::Refused(Refusal::Syntax)),
-    ),
-    ("", Obeyed::Replied(Reply::Refused(Refusal::Syntax))),
-    ("rotate", Obeyed::Asks(Duty::Rotate)),
-    ("reload", Obeyed::Asks(Duty::Reload)),
-    ("end", Obeyed::Asks(Duty::End)),
+/// What becomes of a line.
+#[derive(Clone, Copy)]
+enum Want {
+    Asks(Duty),
+    Done,
+    Refused(Refusal),
+    Waits,
+}
+
+/// Lines on one book, one after the other, and what becomes of each while the disk writes.
+static LINES: [(&str, Want); 22] = [
+    ("report", Asks(Duty::Report)),
+    ("status", Asks(Duty::Status)),
+    ("hold a", Done),
+    ("hold a", Refused(Refusal::Held)),
+    ("hold z", Refused(Refusal::NoFlow)),
+    ("resume a", Done),
+    ("resume a", Refused(Refusal::NotHeld)),
+    ("amend x 1 500", Done),
+    ("amend b 1 7", Done),
+    ("amend x 2 5", Refused(Refusal::NoTicket)),
+    ("amend x 0 5", Refused(Refusal::NoTicket)),
+    ("amend y 1 5", Refused(Refusal::NoCurrency)),
+    ("amend a 1 0", Refused(Refusal::Range)),
+    ("amend a 01 5", Refused(Refusal::Syntax)),
+    ("amend a 1", Refused(Refusal::Syntax)),
+    ("report now", Refused(Refusal::Syntax)),
+    ("hold  a", Refused(Refusal::Syntax)),
+    ("send a 61", Refused(Refusal::Syntax)),
+    ("", Refused(Refusal::Syntax)),
+    ("rotate", Asks(Duty::Rotate)),
+    ("reload", Asks(Duty::Reload)),
+    ("end", Asks(Duty::End)),
 ];
 
 /// Lines while the disk fails.
-const FAILING: [(&str, Obeyed); 9] = [
-    ("report", Obeyed::Asks(Duty::Report)),
-    ("status", Obeyed::Asks(Duty::Status)),
-    ("hold a", Obeyed::Waits),
-    ("resume a", Obeyed::Waits),
-    ("amend x 9 9", Obeyed::Waits),
-    ("rotate", Obeyed::Waits),
-    ("reload", Obeyed::Waits),
-    ("end", Obeyed::Asks(Duty::End)),
-    ("hold", Obeyed::Replied(Reply::Refused(Refusal::Syntax))),
+static FAILING: [(&str, Want); 9] = [
+    ("report", Asks(Duty::Report)),
+    ("status", Asks(Duty::Status)),
+    ("hold a", Waits),
+    ("resume a", Waits),
+    ("amend x 9 9", Waits),
+    ("rotate", Waits),
+    ("reload", Waits),
+    ("end", Asks(Duty::End)),
+    ("hold", Refused(Refusal::Syntax)),
 ];
 
-fn obeys(rt: &impl Abort, alloc: Global, fails: bool, rows: &[(&'static str, Obeyed)]) {
+fn obeyed(want: Want) -> Obeyed {
+    match want {
+        Asks(duty) => Obeyed::Asks(duty),
+        Done => Obeyed::Replied(Reply::Done),
+        Refused(refusal) => Obeyed::Replied(Reply::Refused(refusal)),
+        Waits => Obeyed::Waits,
+    }
+}
+
+fn obeys(rt: &impl Abort, alloc: Global, fails: bool, rows: &[(&'static str, Want)]) {
     let mut book = opened(rt, alloc, false, TextKind::Lengths);
-    for (line, wanted) in rows {
-        same(
-            rt,
-            *line,
-            obey_line(&mut book, fails, line.as_bytes()),
-            *wanted,
-        );
+    for &(line, want) in rows {
+        let got = obey_line(&mut book, fails, line.as_bytes());
+        same(rt, line, got, obeyed(want));
     }
     drop(book);
 }
 
 #[test]
 fn lines_are_obeyed_or_wait(rt: HostRuntime) {
-    obeys(&rt, rt.alloc(), false, LINES.as_slice());
-    obeys(&rt, rt.alloc(), true, FAILING.as_slice());
+    obeys(&rt, rt.alloc(), false, &LINES);
+    obeys(&rt, rt.alloc(), true, &FAILING);
 }
 
 // Whether a text is this one.

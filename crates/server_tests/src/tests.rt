@@ -5,6 +5,5 @@ mod audit;
 mod control;
 mod faults;
 mod made;
-mod memory;
-mod serving;
+mod servers;
 mod stopping;

@@ -1,5 +1,6 @@
 //! The file of an audit, in a folder of its own.
 
+use crate::failing::Taken::Most;
 use crate::failing::{FailingFiles, Taken};
 use crate::tests::assertions::{holds, same};
 use share_base::{Command, Event, Name, Outcome, Reply, Version};
@@ -39,6 +40,12 @@ fn in_folder(alloc: Global, folder: &str, name: &str) -> Result<String, Fail> {
     Ok(path)
 }
 
+// The paths of two names in the folder.
+fn paths(alloc: Global, folder: &str, one: &str, other: &str) -> Result<(String, String), Fail> {
+    let path = in_folder(alloc, folder, one)?;
+    Ok((path, in_folder(alloc, folder, other)?))
+}
+
 // Whether the file of this path has this text, or does not exist if that is `None`.
 fn has_text<R: Files>(rt: &R, path: &str, text: Option<&str>) -> bool {
     let Ok(mut file) = fs::open(rt, path) else {
@@ -70,10 +77,7 @@ fn takes_the_name<R: Files + Eprint + Abort>(
     folder: &str,
     old: Option<&str>,
 ) -> Result<(), Fail> {
-    let (path, beside) = (
-        in_folder(alloc, folder, "a")?,
-        in_folder(alloc, folder, "a.1")?,
-    );
+    let (path, beside) = paths(alloc, folder, "a", "a.1")?;
     let journal = empty(alloc)?;
     let audit = AuditFile::open(rt, alloc, path.as_str(), true)?;
     is_left(rt, "the old file", path.as_str(), old);
@@ -90,10 +94,7 @@ fn leaves_the_old<R: Files + Eprint + Abort>(
     alloc: Global,
     folder: &str,
 ) -> Result<(), Fail> {
-    let (path, beside) = (
-        in_folder(alloc, folder, "b")?,
-        in_folder(alloc, folder, "b.1")?,
-    );
+    let (path, beside) = paths(alloc, folder, "b", "b.1")?;
     let journal = empty(alloc)?;
     fs::write(rt, path.as_str(), OLD)?;
     drop(AuditFile::open(rt, alloc, path.as_str(), true)?);
@@ -112,10 +113,7 @@ fn leaves_other_files<R: Files + Eprint + Abort>(
     alloc: Global,
     folder: &str,
 ) -> Result<(), Fail> {
-    let (path, taken) = (
-        in_folder(alloc, folder, "c")?,
-        in_folder(alloc, folder, "c.1")?,
-    );
+    let (path, taken) = paths(alloc, folder, "c", "c.1")?;
     let journal = empty(alloc)?;
     fs::write(rt, taken.as_str(), OLD)?;
     let audit = AuditFile::open(rt, alloc, path.as_str(), true)?;
@@ -131,10 +129,7 @@ fn replaces_by_force_alone<R: Files + Eprint + Abort>(
     alloc: Global,
     folder: &str,
 ) -> Result<(), Fail> {
-    let (path, beside) = (
-        in_folder(alloc, folder, "i")?,
-        in_folder(alloc, folder, "i.1")?,
-    );
+    let (path, beside) = paths(alloc, folder, "i", "i.1")?;
     let journal = empty(alloc)?;
     let audit = AuditFile::open(rt, alloc, path.as_str(), false)?;
     fs::write(rt, path.as_str(), OLD)?;
@@ -150,10 +145,7 @@ fn writes_in_place<R: Files + Eprint + Abort>(
     alloc: Global,
     folder: &str,
 ) -> Result<(), Fail> {
-    let (path, link) = (
-        in_folder(alloc, folder, "d")?,
-        in_folder(alloc, folder, "e")?,
-    );
+    let (path, link) = paths(alloc, folder, "d", "e")?;
     let journal = empty(alloc)?;
     fs::write(rt, path.as_str(), OLD)?;
     rt.symlink(path.as_str(), link.as_str())?;
@@ -161,21 +153,18 @@ fn writes_in_place<R: Files + Eprint + Abort>(
     is_left(rt, "the old file", path.as_str(), Some(OLD));
     audit.write(&journal)?;
     is_left(rt, "the audit", path.as_str(), Some(AUDIT));
-    holds(
-        rt,
-        "a folder is refused",
-        AuditFile::open(rt, alloc, folder, true).is_err(),
-    );
+    let refused = AuditFile::open(rt, alloc, folder, true).is_err();
+    holds(rt, "a folder is refused", refused);
     Ok(())
 }
 
-const NONE: Taken = Taken::Most(0);
+const NONE: Taken = Most(0);
 
 const FULL: Taken = Taken::Error(ErrorKind::StorageFull);
 
 const BLOCKED: Taken = Taken::Error(ErrorKind::WouldBlock);
 
-const INTERRUPTED: Taken = Taken::Error(ErrorKind::Interrupted);
+const AGAIN: Taken = Taken::Error(ErrorKind::Interrupted);
 
 /// Answers of write calls in turn, whether files can be renamed, whether the audit is reported as written. Then comes
 /// the content of a file that is written in place, which is not renamed. The rest after a refused call is offered once
@@ -185,38 +174,23 @@ type Row = (&'static [Taken], bool, bool, &'static str);
 /// The outcome of the audit of an empty journal, which goes out in one call.
 static WRITES: [Row; 14] = [
     (&[], true, true, AUDIT),
-    (&[Taken::Most(1)], true, true, AUDIT),
-    (&[Taken::Most(1), Taken::Most(6)], true, true, AUDIT),
-    (
-        &[INTERRUPTED, Taken::Most(3), INTERRUPTED],
-        true,
-        true,
-        AUDIT,
-    ),
+    (&[Most(1)], true, true, AUDIT),
+    (&[Most(1), Most(6)], true, true, AUDIT),
+    (&[AGAIN, Most(3), AGAIN], true, true, AUDIT),
     (&[FULL, FULL], true, false, ""),
     (&[BLOCKED, BLOCKED], true, false, ""),
     (&[NONE, NONE], true, false, ""),
-    (&[Taken::Most(1), FULL, FULL], true, false, "a"),
-    (&[Taken::Most(5), FULL, FULL], true, false, "audit"),
-    (&[Taken::Most(5), BLOCKED, BLOCKED], true, false, "audit"),
-    (
-        &[Taken::Most(5), Taken::Most(2), NONE, NONE],
-        true,
-        false,
-        "audit 2",
-    ),
-    (
-        &[INTERRUPTED, Taken::Most(7), FULL, FULL],
-        true,
-        false,
-        "audit 2",
-    ),
-    (&[Taken::Most(3), FULL], true, false, AUDIT),
-    (&[Taken::Most(3)], false, false, AUDIT),
+    (&[Most(1), FULL, FULL], true, false, "a"),
+    (&[Most(5), FULL, FULL], true, false, "audit"),
+    (&[Most(5), BLOCKED, BLOCKED], true, false, "audit"),
+    (&[Most(5), Most(2), NONE, NONE], true, false, "audit 2"),
+    (&[AGAIN, Most(7), FULL, FULL], true, false, "audit 2"),
+    (&[Most(3), FULL], true, false, AUDIT),
+    (&[Most(3)], false, false, AUDIT),
 ];
 
 /// The outcome of an audit that goes out in several calls. Its row is the only one, since it takes long.
-static LONG_WRITES: [Row; 1] = [(&[Taken::Most(5), FULL, FULL], true, false, "audit")];
+static LONG_WRITES: [Row; 1] = [(&[Most(5), FULL, FULL], true, false, "audit")];
 
 /// The number of commands in a journal whose audit goes out in several calls: 72008 bytes, of which 65536 go together.
 const LONG: u64 = 9000;
@@ -268,10 +242,7 @@ fn faults_leave_the_old<R: Files + Eprint + Abort>(
     rows: &[Row],
     old: Option<&str>,
 ) -> Result<(), Fail> {
-    let (path, beside) = (
-        in_folder(alloc, folder, "f")?,
-        in_folder(alloc, folder, "f.1")?,
-    );
+    let (path, beside) = paths(alloc, folder, "f", "f.1")?;
     for (number, row) in rows.iter().enumerate() {
         let (taken, is_renamed, is_written, _) = *row;
         let _ = fs::remove_file(rt, path.as_str());
@@ -297,10 +268,7 @@ fn faults_leave_a_beginning<R: Files + Eprint + Abort>(
     journal: &Journal,
     rows: &[Row],
 ) -> Result<(), Fail> {
-    let (path, link) = (
-        in_folder(alloc, folder, "g")?,
-        in_folder(alloc, folder, "h")?,
-    );
+    let (path, link) = paths(alloc, folder, "g", "h")?;
     fs::write(rt, path.as_str(), OLD)?;
     let _ = fs::remove_file(rt, link.as_str());
     rt.symlink(path.as_str(), link.as_str())?;
@@ -341,13 +309,8 @@ fn files_of_audits(rt: HostRuntime) -> Result<(), Fail> {
     replaces_by_force_alone(&rt, alloc, folder.as_str())?;
     writes_in_place(&rt, alloc, folder.as_str())?;
     faults_are_told(&rt, alloc, folder.as_str(), empty(alloc)?, &WRITES)?;
-    faults_are_told(
-        &rt,
-        alloc,
-        folder.as_str(),
-        long_journal(&rt, alloc),
-        &LONG_WRITES,
-    )?;
+    let journal = long_journal(&rt, alloc);
+    faults_are_told(&rt, alloc, folder.as_str(), journal, &LONG_WRITES)?;
     fs::remove_dir_all(&rt, folder.as_str())?;
     Ok(())
 }

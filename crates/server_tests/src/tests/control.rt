@@ -2,6 +2,7 @@
 ghost use Rattle.std.specs.Prelude.{◌≡◌, ◌≤◌, [], length};
 ghost use Rattle.share_base.specs.declared.version.Version.TheVariants.{Two};
 
+use crate::failing::Taken::Most;
 use crate::failing::{Taken, Taking};
 use crate::tests::assertions::{holds, same};
 use crate::tests::made::{offers, recording};
@@ -108,9 +109,9 @@ const ALL_KINDS: &[u8] =
 /// The answers to this many empty lines are more than the 65536 bytes that wait for a write call.
 const EMPTY_LINES: usize = 5500;
 
-const ALL: Taken = Taken::Most(usize::MAX);
+const ALL: Taken = Most(usize::MAX);
 
-const NONE: Taken = Taken::Most(0);
+const NONE: Taken = Most(0);
 
 const BROKEN: Taken = Taken::Error(ErrorKind::BrokenPipe);
 
@@ -118,129 +119,68 @@ const RESET: Taken = Taken::Error(ErrorKind::ConnectionReset);
 
 const BLOCKED: Taken = Taken::Error(ErrorKind::WouldBlock);
 
-const INTERRUPTED: Taken = Taken::Error(ErrorKind::Interrupted);
+const AGAIN: Taken = Taken::Error(ErrorKind::Interrupted);
+
+const END: How = How::End;
+
+const FAULT: How = How::WriteFault;
+
+/// What is written of the answers to three lines that come one by one: one, two and all of them.
+const ONE: &[u8] = b"flow 1\n|";
+
+const TWO: &[u8] = b"flow 1\n|ticket 1\n|";
+
+const THREE: &[u8] = b"flow 1\n|ticket 1\n|ok\n|";
 
 /// Lines, the answers of write calls in turn, what is written, the end of the connection, and the number of commands
 /// made. An offer that a refused call left is offered once more when the connection is dropped, so a call that stays
 /// refused is refused twice.
 static WRITES: [(&[u8], &[Taken], &[u8], How, usize); 20] = [
-    (APART, &[BROKEN, BROKEN], b"", How::WriteFault, 1),
-    (APART, &[RESET, RESET], b"", How::WriteFault, 1),
-    (APART, &[BLOCKED, BLOCKED], b"", How::WriteFault, 1),
-    (APART, &[NONE, NONE], b"", How::WriteFault, 1),
+    (APART, &[BROKEN, BROKEN], b"", FAULT, 1),
+    (APART, &[RESET, RESET], b"", FAULT, 1),
+    (APART, &[BLOCKED, BLOCKED], b"", FAULT, 1),
+    (APART, &[NONE, NONE], b"", FAULT, 1),
+    (APART, &[ALL, BROKEN, BROKEN], ONE, FAULT, 2),
+    (APART, &[ALL, BLOCKED, BLOCKED], ONE, FAULT, 2),
+    (APART, &[ALL, NONE, NONE], ONE, FAULT, 2),
+    (APART, &[ALL, ALL, BROKEN, BROKEN], TWO, FAULT, 3),
+    (APART, &[ALL, ALL, NONE, NONE], TWO, FAULT, 3),
+    (APART, &[ALL, ALL, ALL, BROKEN], THREE, END, 3),
+    (APART, &[AGAIN], THREE, END, 3),
     (
         APART,
-        &[ALL, BROKEN, BROKEN],
-        b"flow 1\n|",
-        How::WriteFault,
-        2,
-    ),
-    (
-        APART,
-        &[ALL, BLOCKED, BLOCKED],
-        b"flow 1\n|",
-        How::WriteFault,
-        2,
-    ),
-    (APART, &[ALL, NONE, NONE], b"flow 1\n|", How::WriteFault, 2),
-    (
-        APART,
-        &[ALL, ALL, BROKEN, BROKEN],
-        b"flow 1\n|ticket 1\n|",
-        How::WriteFault,
+        &[AGAIN, ALL, AGAIN, AGAIN, ALL, AGAIN],
+        THREE,
+        END,
         3,
     ),
+    (APART, &[Most(1)], b"f|low 1\n|ticket 1\n|ok\n|", END, 3),
     (
         APART,
-        &[ALL, ALL, NONE, NONE],
-        b"flow 1\n|ticket 1\n|",
-        How::WriteFault,
-        3,
-    ),
-    (
-        APART,
-        &[ALL, ALL, ALL, BROKEN],
-        b"flow 1\n|ticket 1\n|ok\n|",
-        How::End,
-        3,
-    ),
-    (
-        APART,
-        &[INTERRUPTED],
-        b"flow 1\n|ticket 1\n|ok\n|",
-        How::End,
-        3,
-    ),
-    (
-        APART,
-        &[INTERRUPTED, ALL, INTERRUPTED, INTERRUPTED, ALL, INTERRUPTED],
-        b"flow 1\n|ticket 1\n|ok\n|",
-        How::End,
-        3,
-    ),
-    (
-        APART,
-        &[Taken::Most(1)],
-        b"f|low 1\n|ticket 1\n|ok\n|",
-        How::End,
-        3,
-    ),
-    (
-        APART,
-        &[
-            Taken::Most(6),
-            Taken::Most(1),
-            Taken::Most(8),
-            Taken::Most(1),
-            Taken::Most(2),
-        ],
+        &[Most(6), Most(1), Most(8), Most(1), Most(2)],
         b"flow 1|\n|ticket 1|\n|ok|\n|",
-        How::End,
+        END,
         3,
     ),
     (
         APART,
-        &[Taken::Most(3), INTERRUPTED, Taken::Most(2)],
+        &[Most(3), AGAIN, Most(2)],
         b"flo|w |1\n|ticket 1\n|ok\n|",
-        How::End,
+        END,
         3,
     ),
-    (
-        APART,
-        &[Taken::Most(3), BROKEN, BROKEN],
-        b"flo|",
-        How::WriteFault,
-        1,
-    ),
-    (
-        APART,
-        &[Taken::Most(3), NONE, NONE],
-        b"flo|",
-        How::WriteFault,
-        1,
-    ),
+    (APART, &[Most(3), BROKEN, BROKEN], b"flo|", FAULT, 1),
+    (APART, &[Most(3), NONE, NONE], b"flo|", FAULT, 1),
     // The rest goes out when the connection is dropped, and what was taken does not go out again.
-    (
-        APART,
-        &[Taken::Most(3), BROKEN],
-        b"flo|w 1\n|",
-        How::WriteFault,
-        1,
-    ),
+    (APART, &[Most(3), BROKEN], b"flo|w 1\n|", FAULT, 1),
     (
         TOGETHER,
-        &[Taken::Most(9), BROKEN, BROKEN],
+        &[Most(9), BROKEN, BROKEN],
         b"flow 1\nti|",
-        How::WriteFault,
+        FAULT,
         3,
     ),
-    (
-        TOGETHER,
-        &[Taken::Most(9)],
-        b"flow 1\nti|cket 1\nok\n|",
-        How::End,
-        3,
-    ),
+    (TOGETHER, &[Most(9)], b"flow 1\nti|cket 1\nok\n|", END, 3),
 ];
 
 /// A reader that gives what is before each bar, at most `most` bytes a call. It is interrupted if that is nothing, and
@@ -514,8 +454,8 @@ fn is_cut<T: Wait + Abort, S: Rates + Copy>(
     commands: usize,
 ) {
     let bytes = SESSION.get(..cut).expect(rt, "a beginning");
-    for most in [1, 7, usize::MAX] {
-        for (fails, how) in [(false, How::End), (true, How::ReadFault)] {
+    for &most in &[1, 7, usize::MAX] {
+        for &(fails, how) in &[(false, How::End), (true, How::ReadFault)] {
             let mut written = Vec::new(alloc);
             let asked = Asked {
                 most,
@@ -559,7 +499,7 @@ fn answers_go_out_once<T: Wait + Abort, S: Rates + Copy>(rt: &T, alloc: Global, 
 fn short_writes_go_on<T: Wait + Abort, S: Rates + Copy>(rt: &T, alloc: Global, shelf: S) {
     let want = b"flow 1\nticket 1\nok\n".as_slice();
     for most in 1..20 {
-        let taken = [Taken::Most(most); 30];
+        let taken = [Most(most); 30];
         let mut written = Vec::new(alloc);
         let asked = Asked {
             taken: &taken,

@@ -12,6 +12,13 @@ use std::alloc::Global;
 use std::process::Abort;
 use std::sync::Wait;
 
+/// An empty journal of this version.
+pub(super) fn journal_of(rt: &impl Abort, alloc: Global, version: Version, life: u64) -> Journal {
+    let mut journal = Journal::new(alloc, life).expect(rt, "a journal");
+    journal.choose(version);
+    journal
+}
+
 /// A recorder of a new link of version 2.
 pub(super) fn recording<S: Rates + Drop>(
     rt: &impl Abort,
@@ -24,8 +31,7 @@ pub(super) fn recording<S: Rates + Drop>(
 {
     let mut engine = Engine::new(alloc, shelf, life, Tape::new(alloc)).expect(rt, "a link");
     engine.choose(Version::Two);
-    let mut journal = Journal::new(alloc, life).expect(rt, "a journal");
-    journal.choose(Version::Two);
+    let journal = journal_of(rt, alloc, Version::Two, life);
     let Ok(recorder) = Recorder::new(engine, journal) else {
         panic!(rt; "the link and its journal are not new");
     };

@@ -5,6 +5,7 @@ mod assertions;
 mod heads;
 mod limits;
 mod lines;
+mod made;
 mod metrics;
 mod recorder;
 mod said;

@@ -156,7 +156,7 @@ fn page_has_nothing_from_elsewhere(rt: HostRuntime) -> Result<(), Fail> {
         page.ends_with("</script>\n</body>\n</html>\n"),
         true,
     );
-    for word in [
+    for &word in &[
         "http:", "https:", "src=", "@import", "url(", "style=", " onclick",
     ] {
         same(&rt, word, page.contains(word), false);

@@ -9,149 +9,76 @@ use std::test::Fail;
 /// The address at which the gateway listens.
 const ADDRESS: &[u8] = b"127.0.0.1:9107";
 
-/// A head, what it asks for, and whether the answer has a body.
-#[derive(Clone, Copy)]
-struct Row {
-    head: &'static str,
-    want: Want,
-    has_body: bool,
-}
+const PAGE: Want = Want::Resource(Resource::Page);
 
-const fn served(head: &'static str, resource: Resource) -> Row {
-    Row {
-        head,
-        want: Want::Resource(resource),
-        has_body: true,
-    }
-}
+const PLAIN: Want = Want::Resource(Resource::Metrics(Exposition::Plain));
 
-const fn refused(head: &'static str, why: Refusal) -> Row {
-    Row {
-        head,
-        want: Want::Refusal(why),
-        has_body: true,
-    }
-}
+const BAD: Want = Want::Refusal(Refusal::BadRequest);
 
-fn rows() -> [Row; 34] {
-    [
-        served(
-            "GET / HTTP/1.1\r\nHost: 127.0.0.1:9107\r\n\r\n",
-            Resource::Page,
-        ),
-        served(
-            "GET / HTTP/1.0\r\nhost:127.0.0.1:9107\r\n\r\n",
-            Resource::Page,
-        ),
-        served(
-            "GET /status.json HTTP/1.1\nHOST: 127.0.0.1:9107 \n\n",
-            Resource::Status,
-        ),
-        served(
-            "\r\nGET /books.csv HTTP/1.1\r\nHost: 127.0.0.1:9107\r\n\r\n",
-            Resource::Books,
-        ),
-        served(
-            "GET /metrics HTTP/1.1\r\nHost: 127.0.0.1:9107\r\n\r\n",
-            Resource::Metrics(Exposition::Plain),
-        ),
-        served(
-            "GET /metrics HTTP/1.1\r\nHost: 127.0.0.1:9107\r\nAccept: text/plain\r\n\r\n",
-            Resource::Metrics(Exposition::Plain),
-        ),
-        served(
-            "GET /metrics HTTP/1.1\r\naccept: application/openmetrics-text;version=1.0.0,*/*;q=0.1\r\n\
-             Host: 127.0.0.1:9107\r\n\r\n",
-            Resource::Metrics(Exposition::OpenMetrics),
-        ),
-        Row {
-            head: "HEAD / HTTP/1.1\r\nHost: 127.0.0.1:9107\r\n\r\n",
-            want: Want::Resource(Resource::Page),
-            has_body: false,
-        },
-        Row {
-            head: "HEAD /nothing HTTP/1.1\r\nHost: 127.0.0.1:9107\r\n\r\n",
-            want: Want::Refusal(Refusal::NotFound),
-            has_body: false,
-        },
-        refused("\r\n\r\n", Refusal::BadRequest),
-        refused("GET /\r\n\r\n", Refusal::BadRequest),
-        refused("nonsense\r\n\r\n", Refusal::BadRequest),
-        refused("GET / HTTP/1.1\r\n\r\n", Refusal::BadRequest),
-        refused(
-            "GET / HTTP/1.1\r\nHost: 127.0.0.1:9107\r\nHost: 127.0.0.1:9107\r\n\r\n",
-            Refusal::BadRequest,
-        ),
-        refused(
-            "GET / HTTP/1.1\r\nHost: 127.0.0.1:9107\r\nno field\r\n\r\n",
-            Refusal::BadRequest,
-        ),
-        refused(
-            "GET / HTTP/1.1\r\nHost : 127.0.0.1:9107\r\n\r\n",
-            Refusal::BadRequest,
-        ),
-        refused(
-            "GET / HTTQ/1.1\r\nHost: 127.0.0.1:9107\r\n\r\n",
-            Refusal::BadRequest,
-        ),
-        refused(
-            "GET /nothing HTTP/1.1\r\nHost: 127.0.0.1:9107\r\n\r\n",
-            Refusal::NotFound,
-        ),
-        refused(
-            "GET /metrics/ HTTP/1.1\r\nHost: 127.0.0.1:9107\r\n\r\n",
-            Refusal::NotFound,
-        ),
-        refused(
-            "GET * HTTP/1.1\r\nHost: 127.0.0.1:9107\r\n\r\n",
-            Refusal::NotFound,
-        ),
-        refused(
-            "POST / HTTP/1.1\r\nHost: 127.0.0.1:9107\r\nContent-Length: 0\r\n\r\n",
-            Refusal::MethodNotAllowed,
-        ),
-        refused(
-            "get / HTTP/1.1\r\nHost: 127.0.0.1:9107\r\n\r\n",
-            Refusal::MethodNotAllowed,
-        ),
-        refused(
-            "OPTIONS * HTTP/1.1\r\nHost: 127.0.0.1:9107\r\n\r\n",
-            Refusal::MethodNotAllowed,
-        ),
-        refused(
-            "GET / HTTP/1.1\r\nHost: elsewhere.example:9107\r\n\r\n",
-            Refusal::MisdirectedRequest,
-        ),
-        refused(
-            "GET / HTTP/1.1\r\nHost: 127.0.0.1\r\n\r\n",
-            Refusal::MisdirectedRequest,
-        ),
-        refused(
-            "GET / HTTP/1.1\r\nHost: 127.0.0.1:91070\r\n\r\n",
-            Refusal::MisdirectedRequest,
-        ),
-        refused(
-            "GET / HTTP/1.1\r\nHost:\r\n\r\n",
-            Refusal::MisdirectedRequest,
-        ),
-        refused(
-            "POST / HTTP/1.1\r\nHost: elsewhere.example\r\n\r\n",
-            Refusal::MisdirectedRequest,
-        ),
-        refused(
-            "GET / HTTP/2.0\r\nHost: 127.0.0.1:9107\r\n\r\n",
-            Refusal::VersionNotSupported,
-        ),
-        refused(
-            "GET / HTTP/1.2\r\nHost: 127.0.0.1:9107\r\n\r\n",
-            Refusal::VersionNotSupported,
-        ),
-        refused("PRI * HTTP/2.0\r\n\r\n", Refusal::VersionNotSupported),
-        refused("GET / HTTP/0.9\r\n\r\n", Refusal::VersionNotSupported),
-        refused("GET / HTTP/10.0\r\n\r\n", Refusal::BadRequest),
-        refused("GET / HTTP/1.1 \r\n\r\n", Refusal::BadRequest),
-    ]
-}
+const NOT_FOUND: Want = Want::Refusal(Refusal::NotFound);
+
+const NOT_ALLOWED: Want = Want::Refusal(Refusal::MethodNotAllowed);
+
+const ELSEWHERE: Want = Want::Refusal(Refusal::MisdirectedRequest);
+
+const VERSION: Want = Want::Refusal(Refusal::VersionNotSupported);
+
+/// Heads, and what they ask for. A bar stands for the end of a line.
+static HEADS: [(&str, Want); 34] = [
+    ("GET / HTTP/1.1|Host: 127.0.0.1:9107||", PAGE),
+    ("GET / HTTP/1.0|host:127.0.0.1:9107||", PAGE),
+    (
+        "GET /status.json HTTP/1.1\nHOST: 127.0.0.1:9107 \n\n",
+        Want::Resource(Resource::Status),
+    ),
+    (
+        "|GET /books.csv HTTP/1.1|Host: 127.0.0.1:9107||",
+        Want::Resource(Resource::Books),
+    ),
+    ("GET /metrics HTTP/1.1|Host: 127.0.0.1:9107||", PLAIN),
+    (
+        "GET /metrics HTTP/1.1|Host: 127.0.0.1:9107|Accept: text/plain||",
+        PLAIN,
+    ),
+    (
+        "GET /metrics HTTP/1.1|accept: application/openmetrics-text;version=1.0.0,*/*;q=0.1|\
+         Host: 127.0.0.1:9107||",
+        Want::Resource(Resource::Metrics(Exposition::OpenMetrics)),
+    ),
+    ("HEAD / HTTP/1.1|Host: 127.0.0.1:9107||", PAGE),
+    ("HEAD /nothing HTTP/1.1|Host: 127.0.0.1:9107||", NOT_FOUND),
+    ("||", BAD),
+    ("GET /||", BAD),
+    ("nonsense||", BAD),
+    ("GET / HTTP/1.1||", BAD),
+    (
+        "GET / HTTP/1.1|Host: 127.0.0.1:9107|Host: 127.0.0.1:9107||",
+        BAD,
+    ),
+    ("GET / HTTP/1.1|Host: 127.0.0.1:9107|no field||", BAD),
+    ("GET / HTTP/1.1|Host : 127.0.0.1:9107||", BAD),
+    ("GET / HTTQ/1.1|Host: 127.0.0.1:9107||", BAD),
+    ("GET /nothing HTTP/1.1|Host: 127.0.0.1:9107||", NOT_FOUND),
+    ("GET /metrics/ HTTP/1.1|Host: 127.0.0.1:9107||", NOT_FOUND),
+    ("GET * HTTP/1.1|Host: 127.0.0.1:9107||", NOT_FOUND),
+    (
+        "POST / HTTP/1.1|Host: 127.0.0.1:9107|Content-Length: 0||",
+        NOT_ALLOWED,
+    ),
+    ("get / HTTP/1.1|Host: 127.0.0.1:9107||", NOT_ALLOWED),
+    ("OPTIONS * HTTP/1.1|Host: 127.0.0.1:9107||", NOT_ALLOWED),
+    ("GET / HTTP/1.1|Host: elsewhere.example:9107||", ELSEWHERE),
+    ("GET / HTTP/1.1|Host: 127.0.0.1||", ELSEWHERE),
+    ("GET / HTTP/1.1|Host: 127.0.0.1:91070||", ELSEWHERE),
+    ("GET / HTTP/1.1|Host:||", ELSEWHERE),
+    ("POST / HTTP/1.1|Host: elsewhere.example||", ELSEWHERE),
+    ("GET / HTTP/2.0|Host: 127.0.0.1:9107||", VERSION),
+    ("GET / HTTP/1.2|Host: 127.0.0.1:9107||", VERSION),
+    ("PRI * HTTP/2.0||", VERSION),
+    ("GET / HTTP/0.9||", VERSION),
+    ("GET / HTTP/10.0||", BAD),
+    ("GET / HTTP/1.1 ||", BAD),
+];
 
 // The head of these bytes, which come in pieces of this size, and then more.
 fn head_of(rt: &impl Abort, alloc: Global, bytes: &[u8], size: usize, more: &[u8]) -> Head {
@@ -166,50 +93,44 @@ fn head_of(rt: &impl Abort, alloc: Global, bytes: &[u8], size: usize, more: &[u8
 
 #[test]
 fn heads_ask(rt: HostRuntime) -> Result<(), Fail> {
-    for row in rows() {
-        let wanted = Request {
-            want: row.want,
-            has_body: row.has_body,
-        };
-        same(&rt, row.head, asked(row.head.as_bytes(), ADDRESS), wanted);
+    for &(row, want) in &HEADS {
+        let head = row.replace(rt.alloc(), "|", "\r\n")?;
+        let has_body = !row.starts_with("HEAD");
+        let got = asked(head.as_bytes(), ADDRESS);
+        same(&rt, row, got, Request { want, has_body });
     }
     Ok(())
 }
 
 #[test]
 fn pieces_make_no_difference(rt: HostRuntime) -> Result<(), Fail> {
-    for row in rows() {
-        let bytes = row.head.as_bytes();
-        for size in [1usize, 2, 7, 1000] {
-            let head = head_of(&rt, rt.alloc(), bytes, size, b"GET / HTTP/1.1\r\n\r\n");
-            same(&rt, row.head, head.is_over(), true);
-            same(&rt, row.head, head.as_bytes(), bytes);
+    for &(row, _) in &HEADS {
+        let bytes = row.replace(rt.alloc(), "|", "\r\n")?;
+        for &size in &[1usize, 2, 7, 1000] {
+            let more = b"GET / HTTP/1.1\r\n\r\n";
+            let head = head_of(&rt, rt.alloc(), bytes.as_bytes(), size, more);
+            same(&rt, row, head.is_over(), true);
+            same(&rt, row, head.as_bytes(), bytes.as_bytes());
         }
     }
     Ok(())
 }
 
+/// Hosts that a head names, addresses of gateways, and whether they serve it.
+static HOSTS: [(&str, &str, Want); 5] = [
+    ("[::1]", "[::1]:80", PAGE),
+    ("[::1]:80", "[::1]:80", PAGE),
+    ("[::1]:81", "[::1]:80", ELSEWHERE),
+    ("[::1]", "[::1]:180", ELSEWHERE),
+    ("[::1]", "[::1]:8080", ELSEWHERE),
+];
+
 #[test]
 fn port_of_http_may_be_left_out(rt: HostRuntime) -> Result<(), Fail> {
-    let rows = [
-        ("GET / HTTP/1.1\r\nHost: [::1]\r\n\r\n", "[::1]:80", true),
-        ("GET / HTTP/1.1\r\nHost: [::1]:80\r\n\r\n", "[::1]:80", true),
-        (
-            "GET / HTTP/1.1\r\nHost: [::1]:81\r\n\r\n",
-            "[::1]:80",
-            false,
-        ),
-        ("GET / HTTP/1.1\r\nHost: [::1]\r\n\r\n", "[::1]:180", false),
-        ("GET / HTTP/1.1\r\nHost: [::1]\r\n\r\n", "[::1]:8080", false),
-    ];
-    for (head, address, is_served) in rows {
-        let want = if is_served {
-            Want::Resource(Resource::Page)
-        } else {
-            Want::Refusal(Refusal::MisdirectedRequest)
-        };
-        let got = asked(head.as_bytes(), address.as_bytes());
-        same(&rt, (head, address), got.want, want);
+    for &(host, address, want) in &HOSTS {
+        let head = long_head(rt.alloc(), "GET / HTTP/1.1\r\nHost: ", host, 1, "\r\n\r\n")?;
+        let got = asked(head.as_slice(), address.as_bytes());
+        same(&rt, (host, address), got.want, want);
     }
     Ok(())
 }
@@ -270,19 +191,11 @@ fn long_heads_are_refused(rt: HostRuntime) -> Result<(), Fail> {
         let head = head_of(&rt, rt.alloc(), bytes.as_slice(), 16384, b"");
         same(&rt, row, head.is_over(), true);
         same(&rt, row, head.as_bytes().len(), bytes.len().min(MAX_HEAD));
-        same(
-            &rt,
-            row,
-            asked(head.as_bytes(), ADDRESS).want,
-            Want::Refusal(why),
-        );
+        let got = asked(head.as_bytes(), ADDRESS);
+        same(&rt, row, got.want, Want::Refusal(why));
     }
     let most = long_head(rt.alloc(), START, "a: b\r\n", 63, "\r\n")?;
-    same(
-        &rt,
-        "64 fields",
-        asked(most.as_slice(), ADDRESS).want,
-        Want::Resource(Resource::Page),
-    );
+    let got = asked(most.as_slice(), ADDRESS);
+    same(&rt, "64 fields", got.want, PAGE);
     Ok(())
 }

@@ -1,12 +1,9 @@
 //! The text of metrics.
 
 use crate::tests::assertions::same;
-use share_base::Name;
-use share_catalog::Time;
+use crate::tests::made::{acme, held_tenant, little, whole};
 use share_metrics::metrics_text;
-use share_status::{
-    DiskStatus, DownlinkState, DownlinkStatus, Status, TenantStatus, UplinkState, UplinkStatus,
-};
+use share_status::Status;
 use share_web::Exposition;
 use std::alloc::Global;
 use std::process::Abort;
@@ -15,11 +12,11 @@ use std::test::Fail;
 
 /// A gateway that is not paced, has no downlink and no tenants, and whose disk fails.
 const LITTLE: &str = "# HELP stridelink_book The number of the open book\n\
-    # TYPE stridelink_book gauge\nstridelink_book 3\n\
+    # TYPE stridelink_book gauge\nstridelink_book 1\n\
     # HELP stridelink_book_events Events of the open book\n\
-    # TYPE stridelink_book_events gauge\nstridelink_book_events 4\n\
+    # TYPE stridelink_book_events gauge\nstridelink_book_events 0\n\
     # HELP stridelink_events_left Events that the open book has room for\n\
-    # TYPE stridelink_events_left gauge\nstridelink_events_left 5\n\
+    # TYPE stridelink_events_left gauge\nstridelink_events_left 0\n\
     # HELP stridelink_disk_waiting_bytes Bytes of books that wait for the disk\n\
     # TYPE stridelink_disk_waiting_bytes gauge\nstridelink_disk_waiting_bytes 18446744073709551615\n\
     # HELP stridelink_disk_fails 1 if the disk fails, and 0 if it writes\n\
@@ -41,7 +38,7 @@ static WHOLE: [&str; 30] = [
     "\nstridelink_downlink_frames_total 7\n",
     "\nstridelink_downlink_bytes_total 8000\n",
     "\nstridelink_downlink_strangers_total 1\n",
-    "\nstridelink_tenant_tickets{tenant=\"acme\"} 250\nstridelink_tenant_tickets{tenant=\"b-2_x\"} 1\n",
+    "\nstridelink_tenant_tickets{tenant=\"acme\"} 250\nstridelink_tenant_tickets{tenant=\"b-2_x\"} 0\n",
     "\nstridelink_tenant_held{tenant=\"acme\"} 0\nstridelink_tenant_held{tenant=\"b-2_x\"} 1\n",
     "\nstridelink_tenant_waiting_packets{tenant=\"acme\"} 3\n",
     "\nstridelink_tenant_buffer_packets{tenant=\"acme\"} 256\n",
@@ -53,8 +50,8 @@ static WHOLE: [&str; 30] = [
     "\nstridelink_tenant_connections{tenant=\"acme\"} 2\n",
     "\nstridelink_tenant_dropped_packets_total{tenant=\"acme\"} 4\n",
     "\nstridelink_tenant_lost_packets_total{tenant=\"acme\"} 5\n",
-    "\nstridelink_tenant_sent_bytes_total{tenant=\"b-2_x\"} 20\n",
-    "\nstridelink_tenant_lost_packets_total{tenant=\"b-2_x\"} 24\n",
+    "\nstridelink_tenant_buffer_packets{tenant=\"b-2_x\"} 1\n",
+    "\nstridelink_tenant_lost_packets_total{tenant=\"b-2_x\"} 18446744073709551615\n",
     "\n# HELP stridelink_tenant_held 1 if the tenant is held, and 0 if not\n",
     "\n# TYPE stridelink_tenant_held gauge\n",
 ];
@@ -76,102 +73,12 @@ fn text_of(rt: &impl Abort, alloc: Global, exposition: Exposition, status: &Stat
 
 #[test]
 fn families_without_a_value_are_left_out(rt: HostRuntime) -> Result<(), Fail> {
-    let status = Status {
-        version: "1",
-        proved: "2",
-        book: 3,
-        events: 4,
-        left: 5,
-        opened: Time::new(2026, 1, 31, 23, 59, 59).ok_or("a time")?,
-        uplink: None,
-        rate: None,
-        disk: DiskStatus {
-            waiting: 18446744073709551615,
-            fault: Some("full"),
-        },
-        tenants: &[],
-        downlink: None,
-    };
+    let status = little(&rt, "full");
     let plain = text_of(&rt, rt.alloc(), Exposition::Plain, &status);
     let text = str::from_utf8(plain.as_slice()).ok().ok_or("text")?;
     same(&rt, "begins", text.starts_with(LITTLE), true);
     same(&rt, "samples", text.contains("\nstridelink_tenant"), false);
     Ok(())
-}
-
-fn tenant(rt: &impl Abort, letters: &str, held: bool, first: u32) -> TenantStatus<'static> {
-    let next = u64::from(first);
-    TenantStatus {
-        name: Name::read(letters.as_bytes()).expect(rt, "a name"),
-        flow: 1,
-        held,
-        tickets: first,
-        grants: &[],
-        waiting: 0,
-        limit: 1,
-        taken_packets: 0,
-        taken_bytes: 0,
-        sent_packets: 0,
-        sent_bytes: next.saturating_mul(20),
-        amount: 0,
-        connections: 0,
-        dropped: 0,
-        lost: next.saturating_mul(24),
-    }
-}
-
-fn tenants(rt: &impl Abort) -> [TenantStatus<'static>; 2] {
-    let acme = TenantStatus {
-        name: Name::read(b"acme").expect(rt, "a name"),
-        flow: 1,
-        held: false,
-        tickets: 250,
-        grants: &[],
-        waiting: 3,
-        limit: 256,
-        taken_packets: 13,
-        taken_bytes: 9100,
-        sent_packets: 10,
-        sent_bytes: 7170,
-        amount: 1280,
-        connections: 2,
-        dropped: 4,
-        lost: 5,
-    };
-    [acme, tenant(rt, "b-2_x", true, 1)]
-}
-
-// The status of a gateway with all parts.
-fn whole<'a>(rt: &impl Abort, tenants: &'a [TenantStatus<'a>]) -> Status<'a> {
-    let address = "192.0.2.7:7003".parse().ok().expect(rt, "an address");
-    Status {
-        version: "1.2.3",
-        proved: "rattle 0.9",
-        book: 42,
-        events: 131,
-        left: 16777085,
-        opened: Time::new(2026, 1, 31, 23, 59, 59).expect(rt, "a time"),
-        uplink: Some(UplinkStatus {
-            state: UplinkState::Up,
-            address,
-            sent: 1000000,
-            outbox: 65536,
-            lost: 17,
-        }),
-        rate: Some(2500000),
-        disk: DiskStatus {
-            waiting: 512,
-            fault: None,
-        },
-        tenants,
-        downlink: Some(DownlinkStatus {
-            state: DownlinkState::Listening,
-            address,
-            frames: 7,
-            bytes: 8000,
-            strangers: 1,
-        }),
-    }
 }
 
 // Both forms of the text of the whole status have its lines.
@@ -183,12 +90,13 @@ fn have_lines(rt: &impl Abort, plain: &str, open: &str) {
     same(rt, "plain", plain.contains(PLAIN_HEAD), true);
     same(rt, "OpenMetrics", open.contains(OPEN_HEAD), true);
     same(rt, "plain has no end", plain.contains("# EOF"), false);
-    same(rt, "the last line", open.ends_with("} 24\n# EOF\n"), true);
+    let end = "} 18446744073709551615\n# EOF\n";
+    same(rt, "the last line", open.ends_with(end), true);
 }
 
 #[test]
 fn whole_status_is_spelled(rt: HostRuntime) {
-    let tenants = tenants(&rt);
+    let tenants = [acme(&rt, &[]), held_tenant(&rt, &[])];
     let status = whole(&rt, tenants.as_slice());
     let plain = text_of(&rt, rt.alloc(), Exposition::Plain, &status);
     let open = text_of(&rt, rt.alloc(), Exposition::OpenMetrics, &status);

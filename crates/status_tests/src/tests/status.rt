@@ -1,14 +1,13 @@
 //! Lines of a status.
 
 use crate::tests::assertions::{name_of, same};
+use crate::tests::made::{acme, address, held_tenant, little, whole};
 use share_catalog::Time;
 use share_gateway::Grant;
 use share_status::{
-    DiskStatus, DownlinkState, DownlinkStatus, Status, TenantStatus, UplinkState, UplinkStatus,
-    status_text,
+    DiskStatus, DownlinkState, DownlinkStatus, Status, UplinkState, UplinkStatus, status_text,
 };
 use std::alloc::Global;
-use std::net::SocketAddr;
 use std::process::Abort;
 use std::str;
 use std::test::Fail;
@@ -41,86 +40,9 @@ const DIALLED: &str = "{\"version\":\"1\",\"proved\":\"2\",\"book\":3,\"events\"
     \"disk\":{\"waiting\":10,\"fault\":\"full\"},\"tenants\":[],\
     \"downlink\":{\"state\":\"up\",\"address\":\"192.0.2.1:65535\",\"frames\":11,\"bytes\":12,\"strangers\":13}}\n";
 
-fn address(rt: &impl Abort, text: &str) -> SocketAddr {
-    text.parse::<SocketAddr>().expect(rt, "an address")
-}
-
 fn compare(rt: &impl Abort, alloc: Global, row: &str, status: &Status<'_>, wanted: &str) {
     let line = status_text(alloc, status).ok().expect(rt, "memory");
     same(rt, row, str::from_utf8(line.as_slice()).ok(), Some(wanted));
-}
-
-fn acme<'a>(rt: &impl Abort, grants: &'a [Grant]) -> TenantStatus<'a> {
-    TenantStatus {
-        name: name_of(rt, "acme"),
-        flow: 1,
-        held: false,
-        tickets: 250,
-        grants,
-        waiting: 3,
-        limit: 256,
-        taken_packets: 13,
-        taken_bytes: 9100,
-        sent_packets: 10,
-        sent_bytes: 7170,
-        amount: 1280,
-        connections: 2,
-        dropped: 4,
-        lost: 5,
-    }
-}
-
-// A tenant that is held, and has none of these grants.
-fn held_tenant<'a>(rt: &impl Abort, grants: &'a [Grant]) -> TenantStatus<'a> {
-    TenantStatus {
-        name: name_of(rt, "b-2_x"),
-        flow: 1024,
-        held: true,
-        tickets: 0,
-        grants: &grants[grants.len()..],
-        waiting: 0,
-        limit: 1,
-        taken_packets: 0,
-        taken_bytes: 0,
-        sent_packets: 0,
-        sent_bytes: 0,
-        amount: 0,
-        connections: 0,
-        dropped: 0,
-        lost: 18446744073709551615,
-    }
-}
-
-// The status of a gateway with all parts.
-fn whole<'a>(rt: &impl Abort, tenants: &'a [TenantStatus<'a>]) -> Status<'a> {
-    Status {
-        version: "1.2.3",
-        proved: "rattle 0.9",
-        book: 42,
-        events: 131,
-        left: 16777085,
-        opened: Time::new(2026, 1, 31, 23, 59, 59).expect(rt, "a time"),
-        uplink: Some(UplinkStatus {
-            state: UplinkState::Up,
-            address: address(rt, "192.0.2.7:7003"),
-            sent: 1000000,
-            outbox: 65536,
-            lost: 17,
-        }),
-        rate: Some(2500000),
-        disk: DiskStatus {
-            waiting: 512,
-            fault: None,
-        },
-        tenants,
-        downlink: Some(DownlinkStatus {
-            state: DownlinkState::Listening,
-            address: address(rt, "[2001:db8::1]:7003"),
-            frames: 7,
-            bytes: 8000,
-            strangers: 1,
-        }),
-    }
 }
 
 #[test]
@@ -142,25 +64,9 @@ fn whole_status_is_spelled(rt: HostRuntime) {
 }
 
 #[test]
-fn absent_parts_are_null(rt: HostRuntime) -> Result<(), Fail> {
-    let status = Status {
-        version: "",
-        proved: "",
-        book: 1,
-        events: 0,
-        left: 0,
-        opened: Time::new(0, 1, 1, 0, 0, 0).ok_or("a time")?,
-        uplink: None,
-        rate: None,
-        disk: DiskStatus {
-            waiting: 18446744073709551615,
-            fault: Some("a \"b\" \\ /\n\t\0\u{1b}\u{7f} \u{e9}"),
-        },
-        tenants: &[],
-        downlink: None,
-    };
+fn absent_parts_are_null(rt: HostRuntime) {
+    let status = little(&rt, "a \"b\" \\ /\n\t\0\u{1b}\u{7f} \u{e9}");
     compare(&rt, rt.alloc(), "little", &status, LITTLE);
-    Ok(())
 }
 
 #[test]

@@ -1,7 +1,7 @@
 //! Audits: written, refused at each byte, and run again as scripts.
 
 use super::assertions::{holds, same};
-use super::made::linked;
+use super::made::{REFUSALS, bytewise, linked};
 use super::tariffs::Four;
 use share_base::{Outcome, Version};
 use share_core::Engine;
@@ -97,13 +97,6 @@ fn is_text(rt: &impl Abort, what: &str, bytes: &[u8], wanted: &[u8]) {
     same(rt, what, (length, agree.count()), (all, all));
 }
 
-// A writer that accepts this many bytes, one a call, and then answers this.
-fn bytewise(rt: &impl Abort, alloc: Global, accepted: usize, last: Answer) -> Scripted {
-    let mut answers = vec![in alloc; Answer::Accepted(1); accepted].expect(rt, "memory");
-    answers.push(last).expect(rt, "memory");
-    Scripted::new(alloc, answers)
-}
-
 /// A writer that accepts each line whole is called once for it, and one that takes each byte gets the same.
 pub(super) fn is_written(rt: &impl Abort, alloc: Global, journal: &Journal, wanted: &[u8]) {
     let audit = audit_of(rt, alloc, journal);
@@ -126,7 +119,7 @@ pub(super) fn is_written(rt: &impl Abort, alloc: Global, journal: &Journal, want
 
 /// If a writer refuses a byte of the audit, what comes before it is written, and the journal is as it was.
 pub(super) fn is_cut_at_each(rt: &impl Abort, alloc: Global, journal: &Journal, wanted: &[u8]) {
-    for last in [Answer::Failed, Answer::Interrupted, Answer::Accepted(0)] {
+    for &last in &REFUSALS {
         for accepted in 0..wanted.len() {
             let mut output = bytewise(rt, alloc, accepted, last);
             same(rt, accepted, journal.audit(&mut output), Err(Fault));

@@ -1,6 +1,7 @@
 //! Bills take memory, but none for the packets of a text of lengths. The allocator of `.ci/allocator.c` alone refuses
 //! requests, and `.ci/memory` runs this test with it. With any other no bill is refused memory.
 
+use super::assertions::{holds, same};
 use super::tariffs::Four;
 use share_bill::bill_text;
 use share_model::allocator::WAS_REFUSED;
@@ -34,5 +35,6 @@ fn first_granted(alloc: Global, text: &str) -> Option<u16> {
 fn waiting_packets_take_no_memory(rt: HostRuntime) {
     let few = first_granted(rt.alloc(), FEW);
     let many = first_granted(rt.alloc(), MANY);
-    assert!(&rt; few.is_some() && few == many, "{few:?} {many:?}");
+    holds(&rt, "a bill", few.is_some());
+    same(&rt, "requests", few, many);
 }

@@ -1,5 +1,6 @@
 //! Bills of texts: those of the worked books, and each way in which a line is not the next one.
 
+use super::assertions::holds;
 use super::tariffs::Four;
 use share_base::Refusal;
 use share_bill::{BookBill, Kind, NotBilled, TenantBill, Wrong, bill_text};
@@ -243,11 +244,8 @@ fn has_none<I: TellingReader + Drop>(alloc: Global, reader: I, wanted: &Refused)
 fn texts_are_billed(rt: HostRuntime) {
     let alloc = rt.alloc();
     for wanted in &BILLED {
-        let text = wanted.text;
-        assert!(&rt;
-            has_bill(alloc, PlainReader(text.as_bytes()), wanted),
-            "{text:?}"
-        );
+        let input = PlainReader(wanted.text.as_bytes());
+        holds(&rt, wanted.text, has_bill(alloc, input, wanted));
     }
 }
 
@@ -255,10 +253,7 @@ fn texts_are_billed(rt: HostRuntime) {
 fn texts_are_refused(rt: HostRuntime) {
     let alloc = rt.alloc();
     for wanted in &REFUSED {
-        let text = wanted.text;
-        assert!(&rt;
-            has_none(alloc, PlainReader(text.as_bytes()), wanted),
-            "{text:?}"
-        );
+        let input = PlainReader(wanted.text.as_bytes());
+        holds(&rt, wanted.text, has_none(alloc, input, wanted));
     }
 }

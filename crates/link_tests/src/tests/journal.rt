@@ -305,7 +305,7 @@ fn new_links_and_journals_of_one_life_and_version_make_recorders(rt: HostRuntime
 
 /// Lives of journals that are out of range.
 pub(super) fn lives_have_limits(rt: &impl Abort, alloc: Global) {
-    for life in [0, 16777217] {
+    for &life in &[0, 16777217] {
         let made = Journal::new(alloc, life);
         same(rt, life, made.err(), Some(Refusal::Range));
     }

@@ -127,7 +127,7 @@ fn calls_take_none(
     let (written, closed) = (WRITTEN[place.min(1)], CLOSED[place.min(1)]);
     talk(rt, alloc, said, recorder, READY);
     refuse_each(alloc);
-    for rows in [BROUGHT, written, TORN, closed, ENDED] {
+    for &rows in &[BROUGHT, written, TORN, closed, ENDED] {
         talk(rt, alloc, said, recorder, rows);
     }
     let mut sink = PlainWriter(io::sink());

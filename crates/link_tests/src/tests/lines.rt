@@ -3,10 +3,10 @@
 
 use super::allocator::{refuse_each, takes_none};
 use super::assertions::{holds, same};
-use super::made::VERSIONS;
+use super::made::{REFUSALS, VERSIONS, bytewise};
 use super::scripts::with_zeros;
 use share_base::Version;
-use share_model::{Answer, Fault, Got, Line, Scripted, ScriptedReader, Tape};
+use share_model::{Fault, Got, Line, ScriptedReader, Tape};
 use share_script::{Incoming, IncomingLines, read_line, write_line};
 use std::alloc::Global;
 use std::process::Abort;
@@ -32,16 +32,9 @@ fn is_written_at_once(rt: &impl Abort, alloc: Global, line: &Line, text: &[u8]) 
     drop(counts);
 }
 
-// A writer that accepts this many bytes, one a call, and then answers this.
-fn bytewise(rt: &impl Abort, alloc: Global, accepted: usize, last: Answer) -> Scripted {
-    let mut answers = vec![in alloc; Answer::Accepted(1); accepted].expect(rt, "memory");
-    answers.push(last).expect(rt, "memory");
-    Scripted::new(alloc, answers)
-}
-
 // If a byte of it is refused, all bytes before it go out.
 fn is_cut_at_each(rt: &impl Abort, alloc: Global, line: &Line, text: &[u8]) {
-    for fault in [Answer::Failed, Answer::Interrupted, Answer::Accepted(0)] {
+    for &fault in &REFUSALS {
         for accepted in 0..=text.len() {
             let mut output = bytewise(rt, alloc, accepted, fault);
             let written = write_line(line, &mut output);

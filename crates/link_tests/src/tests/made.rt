@@ -39,6 +39,20 @@ pub(super) fn scripted(rt: &impl Abort, alloc: Global, answers: &[Answer]) -> Sc
     Scripted::new(alloc, Vec::from_slice(alloc, answers).expect(rt, "memory"))
 }
 
+/// The answers by which an offer is refused.
+pub(super) static REFUSALS: [Answer; 3] = [
+    Answer::Failed,
+    Answer::Interrupted,
+    Answer::Accepted(0),
+];
+
+/// A writer that accepts this many bytes, one a call, and then answers this.
+pub(super) fn bytewise(rt: &impl Abort, alloc: Global, accepted: usize, last: Answer) -> Scripted {
+    let mut answers = vec![in alloc; Answer::Accepted(1); accepted].expect(rt, "memory");
+    answers.push(last).expect(rt, "memory");
+    Scripted::new(alloc, answers)
+}
+
 /// A new journal of a version.
 pub(super) fn journaled(rt: &impl Abort, alloc: Global, version: Version, life: u64) -> Journal {
     let mut journal = Journal::new(alloc, life).expect(rt, "a journal");

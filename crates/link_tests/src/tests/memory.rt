@@ -109,7 +109,7 @@ impl Tokens {
 
 // A life out of range drops the shelf and the writer.
 fn lives_are_out_of_range(rt: &impl Abort, alloc: Global, tokens: &Tokens) {
-    for life in [0, 16_777_217] {
+    for &life in &[0, 16_777_217] {
         let refusal = tokens.engine(rt, alloc, life).err();
         same(rt, life, refusal, Some(Refusal::Range));
         tokens.are_held(rt, "a life out of range", (false, false));
@@ -209,7 +209,7 @@ const OPENED_AND_CLOSED: &str = "\
 
 fn drops_packets(rt: &impl Abort, alloc: Global, said: &mut Said, link: &mut HeldEngine) {
     talk(rt, alloc, said, link, UNDER_WAY);
-    for rows in [REFUSED_AND_SENT, OPENED_AND_CLOSED] {
+    for &rows in &[REFUSED_AND_SENT, OPENED_AND_CLOSED] {
         mark(alloc);
         talk(rt, alloc, said, link, rows);
         keeps_none(rt, rows, alloc);

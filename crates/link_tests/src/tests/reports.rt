@@ -2,7 +2,7 @@
 
 use super::allocator::{refuse_each, takes_none};
 use super::assertions::{prints, same};
-use super::made::LIFE;
+use super::made::{LIFE, REFUSALS, bytewise, scripted};
 use super::script_memory::roomy;
 use super::scripts::after;
 use super::tariffs::Four;
@@ -113,17 +113,15 @@ fn is_beginning(bytes: &[u8], count: usize) -> bool {
     Some(bytes) == TORN_SHOWS.as_bytes().get(..count)
 }
 
-// A writer with these answers has that many bytes of the report when it ends so.
+// A writer has that many bytes of the report when it ends so.
 fn is_cut(
     rt: &impl Abort,
-    alloc: Global,
     link: &Engine<Tape, Four>,
-    answers: &[Answer],
+    writer: Scripted,
     ended: Result<(), Fault>,
     count: usize,
 ) {
-    let answers = Vec::from_slice(alloc, answers).expect(rt, "memory");
-    let mut writer = Scripted::new(alloc, answers);
+    let mut writer = writer;
     let reported = report(link, &mut writer);
     let is_cut = is_beginning(writer.bytes(), count);
     same(rt, count, (reported, is_cut), (ended, true));
@@ -133,23 +131,14 @@ fn is_cut(
 // A writer that takes that many bytes, at once or one a call, and then refuses an offer, ends the report. One that
 // takes a part has the rest in another call.
 fn is_cut_at(rt: &impl Abort, alloc: Global, link: &Engine<Tape, Four>, count: usize) {
-    for last in [Answer::Failed, Answer::Interrupted, Answer::Accepted(0)] {
-        let mut bytewise = vec![in alloc; Answer::Accepted(1); count].expect(rt, "memory");
-        bytewise.push(last).expect(rt, "memory");
-        is_cut(rt, alloc, link, bytewise.as_slice(), Err(Fault), count);
-        drop(bytewise);
-        let at_once = [Answer::Accepted(count), last];
-        is_cut(rt, alloc, link, &at_once, Err(Fault), count);
+    for &last in &REFUSALS {
+        let writer = bytewise(rt, alloc, count, last);
+        is_cut(rt, link, writer, Err(Fault), count);
+        let at_once = scripted(rt, alloc, &[Answer::Accepted(count), last]);
+        is_cut(rt, link, at_once, Err(Fault), count);
     }
-    let all = TORN_SHOWS.len();
-    is_cut(
-        rt,
-        alloc,
-        link,
-        &[Answer::Accepted(count.max(1))],
-        Ok(()),
-        all,
-    );
+    let in_two = scripted(rt, alloc, &[Answer::Accepted(count.max(1))]);
+    is_cut(rt, link, in_two, Ok(()), TORN_SHOWS.len());
 }
 
 // A patient writer makes an interrupted offer again.
@@ -161,8 +150,7 @@ fn is_patient(rt: &impl Abort, alloc: Global, link: &Engine<Tape, Four>) {
         Answer::Accepted(2),
         Answer::Interrupted,
     ];
-    let answers = Vec::from_slice(alloc, &answers).expect(rt, "memory");
-    let mut patient = PatientWriter(Scripted::new(alloc, answers));
+    let mut patient = PatientWriter(scripted(rt, alloc, &answers));
     let reported = report(link, &mut patient);
     let is_whole = patient.0.bytes() == TORN_SHOWS.as_bytes();
     same(rt, "a patient writer", (reported, is_whole), (Ok(()), true));

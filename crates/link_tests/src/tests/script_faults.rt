@@ -1,6 +1,7 @@
 //! Scripts that are cut at each byte, and inputs and outputs that fail.
 
 use super::assertions::{prints, same};
+use super::made::REFUSALS;
 use super::scripts::{BYTEWISE, ITS_OUTPUT, ONE_PACKET, is_answered, run};
 use share_model::{
     Answer, Got, PatientWriter, PlainReader, Scripted, ScriptedReader, Tape, TellingReader,
@@ -197,9 +198,6 @@ fn accepting(
     answers
 }
 
-/// The answers by which an offer is refused.
-static REFUSALS: [Answer; 3] = [Answer::Failed, Answer::Interrupted, Answer::Accepted(0)];
-
 /// The text that is printed before each offer to which the answers to the lines of one read go together.
 static OF_ONE_READ: [&[u8]; 5] = [
     b"",
@@ -282,7 +280,7 @@ const BETWEEN_ANSWERS: &[u8] = b"idle\n\
 fn accepting_bytes(rt: &impl Abort, alloc: Global, length: usize) -> Vec<Answer> {
     let mut answers = Vec::new(alloc);
     let mut left = length;
-    for offer in [5, 389, 12] {
+    for &offer in &[5, 389, 12] {
         if left > 0 {
             let count = left.min(offer);
             answers.push(Answer::Accepted(count)).expect(rt, "memory");

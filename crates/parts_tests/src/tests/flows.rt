@@ -324,7 +324,7 @@ fn buffers_are_made_and_opened_once_their_memory_is_found(rt: HostRuntime) {
 fn holds_long(rt: &impl Abort, alloc: Global, buffers: &mut Buffers) {
     let flow = FlowNo(1);
     same(rt, "a buffer", open(buffers, flow, 2), Some(Ok(())));
-    for answer in [Ok(1), Ok(2), Err(b'x')] {
+    for &answer in &[Ok(1), Ok(2), Err(b'x')] {
         let body = Body::new(alloc, &[b'x'; 40]).expect(rt, "a payload");
         same(rt, "a payload", push(buffers, flow, body), Some(answer));
     }

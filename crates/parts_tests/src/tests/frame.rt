@@ -1,10 +1,10 @@
 //! share_frame: worked frames and headers, what bytes are read as, and every cut. No call takes memory.
 
+use self::Want::{Bad, Hi, More};
 use crate::tests::allocator::{refuse, took_none};
 use crate::tests::assertions::{holds, same};
 use share_base::Version::{One, Two};
 use share_base::{FlowNo, Version};
-use share_frame::FrameRead2::{Bad, More};
 use share_frame::{
     Field, FrameRead, FrameRead2, header, header2, no_frame_begins_another, read_frame, read_frame2,
 };
@@ -15,23 +15,16 @@ const HI: &[u8; 14] = b"\x4c\x01\x00\x00\x00\x01\x00\x00\x00\x01\x00\x02hi";
 
 const HI2: &[u8; 19] = b"\x4c\x02\x01\x00\x00\x00\x01\x00\x00\x00\x00\x00\x00\x00\x01\x00\x02hi";
 
-// The reading of `hi`. The tariff is 0 in version 1, which has none.
-const READ: FrameRead2 = FrameRead2::Frame {
-    flow: FlowNo(1),
-    seq: 1,
-    tariff: 0,
-    len: 2,
-};
-
-const READ2: FrameRead2 = FrameRead2::Frame {
-    flow: FlowNo(1),
-    seq: 1,
-    tariff: 1,
-    len: 2,
-};
+/// A reading: the frame of the payload `hi`, the beginning of one, or a field that no frame has.
+#[derive(Clone, Copy)]
+enum Want {
+    Hi,
+    More,
+    Bad(Field),
+}
 
 /// A version, bytes in hexadecimal, and what they are read as.
-const ROWS: [(Version, &str, FrameRead2); 35] = [
+static ROWS: [(Version, &str, Want); 35] = [
     (One, "", More),
     (One, "4d", Bad(Field::Magic)),
     (One, "4c02", Bad(Field::Version)),
@@ -45,8 +38,8 @@ const ROWS: [(Version, &str, FrameRead2); 35] = [
     (One, "4c0100000001000000010000", Bad(Field::Len)),
     (One, "4d0200000000000000000600", Bad(Field::Magic)),
     (One, "4c0100000000000000000600", Bad(Field::Flow)),
-    (One, "4c01000000010000000100026869", READ),
-    (One, "4c010000000100000001000268694d", READ),
+    (One, "4c01000000010000000100026869", Hi),
+    (One, "4c010000000100000001000268694d", Hi),
     (Two, "", More),
     (Two, "4d", Bad(Field::Magic)),
     (Two, "4c01", Bad(Field::Version)),
@@ -68,8 +61,8 @@ const ROWS: [(Version, &str, FrameRead2); 35] = [
         "4c02090000000000000000000000002400",
         Bad(Field::Tariff),
     ),
-    (Two, "4c020100000001000000000000000100026869", READ2),
-    (Two, "4c0201000000010000000000000001000268694d", READ2),
+    (Two, "4c020100000001000000000000000100026869", Hi),
+    (Two, "4c0201000000010000000000000001000268694d", Hi),
     (Two, "4c0208000000010000000000000001", More),
 ];
 
@@ -84,9 +77,23 @@ fn read(version: Version, bytes: &[u8]) -> FrameRead2 {
                 tariff: 0,
                 len,
             },
-            FrameRead::More => More,
-            FrameRead::Bad(field) => Bad(field),
+            FrameRead::More => FrameRead2::More,
+            FrameRead::Bad(field) => FrameRead2::Bad(field),
         },
+    }
+}
+
+// The reading that is wanted. The tariff of the frame is 0 in version 1, which has none.
+fn wanted(version: Version, want: Want) -> FrameRead2 {
+    match want {
+        Hi => FrameRead2::Frame {
+            flow: FlowNo(1),
+            seq: 1,
+            tariff: if version == One { 0 } else { 1 },
+            len: 2,
+        },
+        More => FrameRead2::More,
+        Bad(field) => FrameRead2::Bad(field),
     }
 }
 
@@ -151,7 +158,8 @@ fn are_headers(rt: &impl Abort) {
 // Each frame is one that is cut before its last byte.
 fn are_cut(rt: &impl Abort, version: Version, frame: &[u8]) {
     for count in 0..frame.len() {
-        same(rt, (version, count), read(version, &frame[..count]), More);
+        let got = read(version, &frame[..count]);
+        same(rt, (version, count), got, FrameRead2::More);
     }
 }
 
@@ -159,8 +167,9 @@ fn are_cut(rt: &impl Abort, version: Version, frame: &[u8]) {
 fn frames_take_no_memory(rt: HostRuntime) {
     no_frame_begins_another();
     refuse(rt.alloc(), 1);
-    for (version, text, answer) in &ROWS {
-        same(&rt, (*version, *text), read_hex(*version, text), *answer);
+    for &(version, text, want) in &ROWS {
+        let got = read_hex(version, text);
+        same(&rt, (version, text), got, wanted(version, want));
     }
     are_cut(&rt, One, HI);
     are_cut(&rt, Two, HI2);

@@ -467,7 +467,7 @@ fn tables_grow_once_their_memory_is_found(rt: HostRuntime) {
 
 // Makes changes of which each request is refused in turn.
 fn is_refused_in_part(rt: &impl Abort, alloc: Global, ledger: &mut Ledger) {
-    for kind in ["mkcur", "mktkt", "open"] {
+    for &kind in &["mkcur", "mktkt", "open"] {
         for request in 1..4 {
             refuse(alloc, request);
             let answer = grow(rt, ledger, kind, 99);
@@ -480,7 +480,7 @@ fn is_refused_in_part(rt: &impl Abort, alloc: Global, ledger: &mut Ledger) {
 #[test]
 fn a_ledger_gives_its_memory_back(rt: HostRuntime) {
     let alloc = rt.alloc();
-    for rows in ["", "fill"] {
+    for &rows in &["", "fill"] {
         mark(alloc);
         let mut ledger = Ledger::new(alloc).expect(&rt, "memory");
         play(&rt, &mut ledger, "before it is dropped", rows);

@@ -254,7 +254,7 @@ fn an_interrupted_offer_is_made_again(rt: HostRuntime) {
         drop(writer);
     }
     let mut writer = patient(OFFERS + 2, StdAnswer::All);
-    for wanted in [Answer::Interrupted, Answer::Accepted(3)] {
+    for &wanted in &[Answer::Interrupted, Answer::Accepted(3)] {
         same(&rt, "two calls", writer.offer(b"abc"), wanted);
     }
     holds(&rt, "two calls", writer.0.0.was_called(OFFERS + 3, 3));

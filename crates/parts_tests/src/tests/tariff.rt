@@ -87,7 +87,7 @@ fn shelves_hold_one_to_eight_and_refused_ones_are_dropped(rt: HostRuntime) -> Re
     let alloc = rt.alloc();
     let token = Arc::new(alloc, 0u8)?;
     let range = Some(Refusal::Range);
-    for (count, wanted) in [(0, range), (1, None), (8, None), (9, range)] {
+    for &(count, wanted) in &[(0, range), (1, None), (8, None), (9, range)] {
         let mut tariffs = Vec::new(alloc);
         for _ in 0..count {
             let held = Arc::try_clone(&token)?;

@@ -44,7 +44,7 @@ fn take_no_memory<T: Wait + Abort>(
 
 // Offers a payload that is kept on the heap, which stays in the queue, and one that comes back.
 fn leaves_one<T: Wait + Abort>(rt: &T, alloc: Global, end: &mut IngressEnd) {
-    for is_queued in [true, false] {
+    for &is_queued in &[true, false] {
         let name = Name::read(b"a").expect(rt, "a name");
         let parcel = Parcel::new(alloc, &[7; 20]).expect(rt, "a payload");
         let offered = end.offer(rt, name, parcel);
@@ -174,7 +174,7 @@ fn add_record(rt: &impl Abort, bytes: &mut Vec<u8>, size: u16) {
 // Records for the flow a, with payloads of 5000 and of 8000 bytes.
 fn two_long(rt: &impl Abort, alloc: Global) -> Vec<u8> {
     let mut bytes = Vec::new(alloc);
-    for size in [5000, 8000] {
+    for &size in &[5000, 8000] {
         add_record(rt, &mut bytes, size);
     }
     bytes

@@ -61,8 +61,8 @@ fn offered_three<T: Wait + Abort>(rt: &T, alloc: Global) -> (Intake, Vec<Ingress
     same(rt, "1, 1", offered(rt, alloc, &mut first, 1), Some(1));
     same(rt, "2, 1", offered(rt, alloc, &mut second, 2), Some(1));
     same(rt, "1, 2", offered(rt, alloc, &mut first, 3), Some(2));
-    assert!(rt; ends.push(first).is_ok());
-    assert!(rt; ends.push(second).is_ok());
+    holds(rt, "an end", ends.push(first).is_ok());
+    holds(rt, "an end", ends.push(second).is_ok());
     (intake, ends)
 }
 

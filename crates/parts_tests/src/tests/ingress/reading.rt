@@ -86,7 +86,7 @@ fn stops_at(rt: &impl Abort, alloc: Global, at: usize, items: usize) {
     let is_whole = at == 0 || at == 5 || at == 11;
     let ended = if is_whole { End } else { Cut };
     ends_both_ways(rt, alloc, "cut", first, (items, ended));
-    for is_interrupted in [false, true] {
+    for &is_interrupted in &[false, true] {
         let failing = bytewise(rt, alloc, TWO, at, is_interrupted);
         ends(rt, alloc, "failing", failing, 1000, (items, Fault));
     }
@@ -100,7 +100,7 @@ fn a_stream_stops_at_each_byte(rt: HostRuntime) {
     for (at, items) in WHOLE.iter().enumerate() {
         stops_at(&rt, rt.alloc(), at, *items);
     }
-    for (is_interrupted, bound) in [(false, 12), (false, 13), (true, 1000)] {
+    for &(is_interrupted, bound) in &[(false, 12), (false, 13), (true, 1000)] {
         let whole = bytewise(&rt, rt.alloc(), TWO, MANY, is_interrupted);
         ends(&rt, rt.alloc(), "whole", whole, bound, (2, End));
     }
@@ -141,8 +141,7 @@ fn an_item_is_the_name_and_the_payload(rt: HostRuntime) {
 
 // Checks that a record for the flow a is given if it is read in two parts. Without the second one it is cut.
 fn is_read_in_parts(rt: &impl Abort, alloc: Global, record: &[u8], at: usize) {
-    let mut reads = Vec::new(alloc);
-    assert!(rt; reads.push(Got::Bytes(at)).is_ok());
+    let reads = vec![in alloc; Got::Bytes(at)].expect(rt, "memory");
     let mut parts = reader(rt, alloc, ScriptedReader::new(reads, record), 3);
     let (_, payload) = record.split_at(4.min(record.len()));
     gives(rt, "in parts", &mut parts, payload);

@@ -2,7 +2,7 @@
 
 use super::made::{MANY, bytewise, one_end, reader, shared, taken, word};
 use crate::readers::TwoRecords;
-use crate::tests::assertions::same;
+use crate::tests::assertions::{holds, same};
 use share_ingress::Why::{Ended as ByReader, Stopped};
 use share_ingress::{Done, Gate, IngressEnd, Intake, Job, Why, queue, run_worker, run_workers};
 use share_model::Ended::{BadRecord, Bound, Cut, End, Fault};
@@ -163,14 +163,14 @@ fn jobs_beside(
 ) -> Vec<Job<TwoRecords, Setting>> {
     let (first, second) = (word(rt, alloc), word(rt, alloc));
     let mut jobs = Vec::with_capacity(alloc, 2).expect(rt, "memory");
-    for (own, other) in [(&first, &second), (&second, &first)] {
+    for &(own, other) in &[(&first, &second), (&second, &first)] {
         let word = shared(rt, other);
         let job = Job {
             reader: reader(rt, alloc, TwoRecords { reads: 0, word }, 100),
             end: ends.pop().expect(rt, "an end"),
             gate: Setting(shared(rt, own)),
         };
-        assert!(rt; jobs.push(job).is_ok());
+        holds(rt, "a job", jobs.push(job).is_ok());
     }
     drop(first);
     drop(second);

@@ -18,8 +18,8 @@ sys.dont_write_bytecode = True
 
 from gatewaying import FILLING, NUMBER, Play, Tenant, address_of, connect, frame_bytes, free_port, packet, records
 from measured import judged_alone
-from serving import (LOOPBACK, PATIENCE, SERVED, Failure, ends_by_itself, expect, expect_equal, frame,
-                     frames, try_cases, wait_for)
+from serving import (LOOPBACK, PATIENCE, Failure, ends_by_itself, expect, expect_equal, frame, frames, try_cases,
+                     wait_for)
 
 # Seconds for a case, and for all of them.
 LIMIT = 240

@@ -9,7 +9,7 @@ use share_orders::{Duty, Obeyed, book_text, fault_text, obey_line, reply_text, r
 use std::alloc::Global;
 use std::process::Abort;
 
-/// What becomes of a line.
+/// The outcome of a line.
 #[derive(Clone, Copy)]
 enum Want {
     Asks(Duty),
@@ -18,7 +18,7 @@ enum Want {
     Waits,
 }
 
-/// Lines on one book, one after the other, and what becomes of each while the disk writes.
+/// Lines on one book, one after the other, and the outcome of each while the disk writes.
 static LINES: [(&str, Want); 22] = [
     ("report", Asks(Duty::Report)),
     ("status", Asks(Duty::Status)),

@@ -125,7 +125,7 @@ const END: How = How::End;
 
 const FAULT: How = How::WriteFault;
 
-/// What is written of the answers to three lines that come one by one: one, two and all of them.
+/// The answers to three lines that come one by one, as they are written: one, two and all of them.
 const ONE: &[u8] = b"flow 1\n|";
 
 const TWO: &[u8] = b"flow 1\n|ticket 1\n|";

@@ -499,13 +499,13 @@ where
     T: Abort + Threads + Wait + Sync,
 {
     let mut answers = Vec::new(alloc);
-    for count in [bytes.min(18), bytes.saturating_sub(18)] {
+    for &count in &[bytes.min(18), bytes.saturating_sub(18)] {
         if count > 0 {
             answers.push(Answer::Accepted(count)).expect(rt, "memory");
         }
     }
     let writes = answers.len();
-    for last in [Answer::Failed, Answer::Accepted(0)] {
+    for &last in &[Answer::Failed, Answer::Accepted(0)] {
         answers.push(last).expect(rt, "memory");
         is_written(rt, alloc, answers.as_slice(), bytes, writes);
         let _ = answers.pop();

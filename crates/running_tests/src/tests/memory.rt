@@ -267,7 +267,7 @@ fn links_refuse_what_finds_no_memory_and_keep_nothing(rt: HostRuntime) {
         is_done_once_found(&rt, rt.alloc(), Play::Command(row), requests);
     }
     is_done_once_found(&rt, rt.alloc(), Play::Report, 2);
-    for play in [Play::Receipts, Play::OtherCalls, Play::Settled, Play::Left] {
+    for &play in &[Play::Receipts, Play::OtherCalls, Play::Settled, Play::Left] {
         is_done_once_found(&rt, rt.alloc(), play, 0);
     }
 }

@@ -3,6 +3,7 @@
 //! run at each of its steps.
 ghost use Rattle.std.specs.Prelude.{◌≡◌};
 
+use super::assertions::{holds, same};
 use super::made::name;
 use super::session::plays;
 use super::stage::{NewLink, Slot, Stage, new_link, staged};
@@ -86,10 +87,7 @@ fn offers<T: Abort + Wait, L: LinkBrand>(
         let parcel = Parcel::new(alloc, b"x").expect(rt, "a payload");
         pace.wait(rt, worker, n);
         let offered = end.offer(rt, flow, parcel);
-        assert!(rt;
-            matches!(offered, Offered::Queued(_)),
-            "worker {worker}, packet {n}"
-        );
+        holds(rt, (worker, n), matches!(offered, Offered::Queued(_)));
         pace.ring();
         if n % PACKETS_A_READ == 0 {
             pace.begin_waiting(worker);
@@ -146,7 +144,7 @@ fn offers_alone<T: Abort + Wait, L: LinkBrand>(
         shared.stage.pace.end_waiting(1);
         shared.stage.pace.wait(rt, 1, n);
         let offered = end.offer(rt, flow, parcel);
-        assert!(rt; matches!(offered, Offered::Queued(_)), "packet {n}");
+        holds(rt, n, matches!(offered, Offered::Queued(_)));
         shared.stage.pace.ring();
         shared.stage.pace.begin_waiting(1);
         while_unsent(rt, shared, n);
@@ -192,7 +190,7 @@ where
                     .is_ok(),
                 Load::Alone => true,
             };
-            assert!(rt; is_started);
+            holds(rt, number, is_started);
         }
         if load == Load::Together {
             plays(rt, alloc, &shared.stage, &[HELD; HOLDS]);
@@ -209,7 +207,7 @@ where
     let stage = &shared.stage;
     thread::scope(thread::scope_env(), rt, move |scope| -> LinkEnd {
         let watch = scope.spawn(move || watches(rt, shared));
-        assert!(rt; watch.is_ok());
+        holds(rt, "a watch", watch.is_ok());
         let link = scope.spawn(move || {
             run_paced_link(rt, &stage.port, &shared.stop, &stage.pace, stage)
         });
@@ -236,17 +234,16 @@ where
         is_late: Stop::new(),
     };
     let end = runs(rt, alloc, &shared, load);
-    assert!(rt; !shared.is_late.is_set(), "somebody sleeps for ever");
-    assert!(rt; end == LinkEnd::Drained && shared.stage.has_ended.is_set());
+    holds(rt, "nobody sleeps for ever", !shared.is_late.is_set());
+    same(rt, "how the link ended", end, LinkEnd::Drained);
+    holds(rt, "the link has ended", shared.stage.has_ended.is_set());
     let totals = shared.stage.port.lock(rt).recorder().engine().totals();
     let all = match load {
         Load::Together => WORKERS as u64 * PACKETS,
         Load::Alone => LONE_PACKETS,
     };
-    assert!(rt;
-        totals.accepted == all && totals.written == all,
-        "{totals:?}"
-    );
+    let packets = (totals.accepted, totals.written);
+    same(rt, "packets accepted and written", packets, (all, all));
     drop(shared);
 }
 

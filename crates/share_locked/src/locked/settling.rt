@@ -47,10 +47,10 @@ pub struct Settled<W: TellingWriter, S: Rates> {
 /// A link that was not settled, with its ends and its clerks, all as they were, and why.
 #[derive(Drop)]
 pub struct Unsettled<W: TellingWriter, S: Rates, L: LinkBrand> {
-    pub why: WhyUnsettled,
     pub locked: Locked<W, S, L>,
     pub ends: Vec<IngressEnd>,
     pub clerks: Vec<Clerk<L>>,
+    pub why: WhyUnsettled,
 }
 
 /// Settles a link with all its ends and clerks. Errors, in the order of the tests, after which all comes back as it
@@ -81,27 +81,27 @@ pub fn settle<W: TellingWriter, S: Rates, L: LinkBrand>(
 {
     if locked.is_unsent() {
         return Err(Unsettled {
-            why: WhyUnsettled::Unsent,
             locked,
             ends,
             clerks,
+            why: WhyUnsettled::Unsent,
         });
     }
     if !locked.agrees(clerks.as_slice()) {
         return Err(Unsettled {
-            why: WhyUnsettled::Mismatch,
             locked,
             ends,
             clerks,
+            why: WhyUnsettled::Mismatch,
         });
     }
     match locked.join(alloc, ends) {
         Ok(settled) => Ok(settled),
-        Err((why, locked, ends)) => Err(Unsettled {
-            why: why_of(why),
+        Err((locked, ends, why)) => Err(Unsettled {
             locked,
             ends,
             clerks,
+            why: why_of(why),
         }),
     }
 }
@@ -118,7 +118,7 @@ fn why_of(why: WhyNot) -> WhyUnsettled
 }
 
 // A link that was not joined with its ends, and why.
-type Unjoined<W, S, L> = (WhyNot, Locked<W, S, L>, Vec<IngressEnd>);
+type Unjoined<W, S, L> = (Locked<W, S, L>, Vec<IngressEnd>, WhyNot);
 
 impl<W: TellingWriter, S: Rates, L: LinkBrand> Locked<W, S, L> {
     // Whether there is a frame to send, the link is not broken and its life is not spent.
@@ -149,9 +149,9 @@ impl<W: TellingWriter, S: Rates, L: LinkBrand> Locked<W, S, L> {
         ensures ok { IfOk result (λ s.
             IsJoined self ends.items s.recorder s.tallies.items s.arrivals s.commands) }
         ensures accounts { IfOk result (λ s. IsAccounted W.told s.recorder ends.items) }
-        ensures back { IfErr result (λ u. (u.1 ≡ self)
-            × (u.2.items ≡ ends.items)
-            × RefusesToGather u.0 self.intake ends.items) }
+        ensures back { IfErr result (λ u. (u.0 ≡ self)
+            × (u.1.items ≡ ends.items)
+            × RefusesToGather u.2 self.intake ends.items) }
     {
         let Locked {
             recorder,
@@ -174,7 +174,6 @@ impl<W: TellingWriter, S: Rates, L: LinkBrand> Locked<W, S, L> {
                 })
             }
             Err(Ungathered { why, intake, ends }) => Err((
-                why,
                 Locked {
                     recorder,
                     intake,
@@ -182,6 +181,7 @@ impl<W: TellingWriter, S: Rates, L: LinkBrand> Locked<W, S, L> {
                     of,
                 },
                 ends,
+                why,
             )),
         }
     }

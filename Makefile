@@ -107,7 +107,7 @@ bin/stridelink-gateway: $(SOURCES)
 	cp crates/gateway/out/gateway bin/stridelink-gateway
 
 test:
-	@echo 'the gate: every proof from nothing, the edits that must fail, the tests and the program; more than an hour' >&2
+	@echo 'the gate: every proof from nothing, the edits that must fail, the tests and the program; one to two hours' >&2
 	.ci/layers
 	.ci/kit
 	RT_JOBS=$$(.ci/jobs) .ci/costs record .ci/rt ci

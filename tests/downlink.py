@@ -578,6 +578,7 @@ def great_numbers(run):
     """Tenants of numbers up to the greatest have the packets of their frames. A number between them is a stranger's."""
     far = far_gateway(run, {name: Tenant([1], [f"flow = {flow}"]) for name, flow in FLOWS.items()})
     got = receivers(run, far, FLOWS)
+    wait_for(lambda: all(far.tenant(name)["connections"] == 1 for name in FLOWS), "the connections of the tenants")
     connection = raw(run, far)
     for number in range(20):
         connection.sendall(b"".join(frame_of(number, flow) for flow in (*FLOWS.values(), 66, 1023)))

@@ -94,9 +94,10 @@ FLOWS = {"a": 64, "b": 65, "c": 1024}
 FLOW_AT = 6
 
 # Payloads of 20 bytes, a round of which has more frames than the buffers of four tenants have packets. Shares of these
-# are counted for that many seconds, after as many in which nothing is counted.
+# are counted for that many seconds, and until the least share is that many frames. Before, as much is not counted.
 SMALL = 20
-SMALL_WINDOW = 1.5
+SMALL_WINDOW = 1
+LEAST_SHARE = 100
 MOST_ERROR_OF_SMALL = 0.05
 
 # A shell that has mounts of its own, the room of a small disk, and how much of it is taken at first.
@@ -938,18 +939,27 @@ def check_small(run, tenants, flows):
     far = SmallFrames(run, flows)
     gateway = run.gateway(far, tenants)
     run.thread(send_small, gateway)
-    wait_for(lambda: all(far.counts.get(flow) for flow in flows), "a frame of each tenant")
-    time.sleep(SMALL_WINDOW)
-    before = dict(far.counts)
-    time.sleep(SMALL_WINDOW)
-    came = {flow: far.counts[flow] - before[flow] for flow in flows}
     tickets = {flow: tenant.grants[0][0] for flow, tenant in zip(flows, tenants.values())}
+    many = LEAST_SHARE * sum(tickets.values()) // min(tickets.values())
+    wait_for(lambda: all(far.counts.get(flow) for flow in flows), "a frame of each tenant")
+    count_small(far, many)
+    start, before = time.monotonic(), dict(far.counts)
+    count_small(far, many)
+    seconds, after = time.monotonic() - start, dict(far.counts)
+    came = {flow: after[flow] - before[flow] for flow in flows}
     errors = {flow: came[flow] * sum(tickets.values()) / (sum(came.values()) * tickets[flow]) - 1 for flow in flows}
     worst = max(map(abs, errors.values()))
-    print(f"shares of small packets: {sum(came.values()) / SMALL_WINDOW:.0f} frames/s of {len(flows)} tenants, worst "
+    print(f"shares of small packets: {sum(came.values()) / seconds:.0f} frames/s of {len(flows)} tenants, worst "
           f"error {worst:.4f} of a share")
     expect(worst <= MOST_ERROR_OF_SMALL, f"shares of small packets are off by {shortened(errors)}: {shortened(came)}")
     gateway.close()
+
+
+def count_small(far, many):
+    """Waits until that many frames more came, and for a while at least."""
+    before = far.frames()
+    time.sleep(SMALL_WINDOW)
+    far.wait_for(before + many)
 
 
 class SmallFrames(FarEnd):

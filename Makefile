@@ -15,7 +15,7 @@ SOURCES := crates.txt $(shell find crates -name '*.rt' -o -name '*.antt' | grep 
 PREFIX ?= /usr/local
 
 TOOL_PACKAGES := mandoc man-db tshark gnuplot-nox python3 python3-prometheus-client postgresql systemd bash-completion \
-    binutils dpkg-dev lintian zstd socat iproute2 iperf3 iputils-ping chromium prometheus curl
+    binutils dpkg-dev lintian zstd socat iproute2 iperf3 iputils-ping nftables procps chromium prometheus curl
 
 help:
 	@echo 'make try         runs an example, with nothing proved'

@@ -1,14 +1,14 @@
 #!/usr/bin/env python3
 """Tries the tool that opens TUN devices, in namespaces of its own: which device is which descriptor, what a device is
-set to, and what is said if leave is missing. What docs/TUNNEL.md shows is done, and its tunnel carries echoes if the
-program of gateways is there. A machine that gives no namespace or no device is not tried."""
+set to, and what is said if leave is missing. Two hosts play the files and the blocks of docs/TUNNEL.md if the program of
+gateways is there. A machine that gives no namespace or no device is not tried."""
 import json
 import os
 import re
 import subprocess
 import sys
 
-from trying import GATEWAY, LIMIT, TOOLS, TOP, expect, expect_equal, try_cases
+from trying import GATEWAY, LIMIT, PROGRAM, TOOLS, TOP, expect, expect_equal, try_cases, write
 
 TUN = os.path.join(TOOLS, "tun")
 PAGE = os.path.join(TOP, "docs", "TUNNEL.md")
@@ -117,58 +117,126 @@ def blocks(kind):
         return re.findall(rf"```{kind}\n(.*?)```", file.read(), re.DOTALL)
 
 
+def block(kind, word):
+    """The block of docs/TUNNEL.md of a kind that has a word."""
+    found, = (text for text in blocks(kind) if word in text)
+    return found
+
+
+# A folder /etc that has the rules of the firewall, $1, and ends with its namespace.
+FIREWALL = "mount -t tmpfs none /etc; mkdir /etc/stridelink; printf %s \"$1\" > /etc/stridelink/tunnel.nft\n"
+
+
 def page(_):
     """The script of docs/TUNNEL.md makes devices, twice too, and the tool takes them with addresses and routes."""
     script = blocks("sh")[0]
-    text = printed(f"{script}{script}{TUN} acme bond -- ip -json route")
+    text = printed(f"{FIREWALL}{script}{script}{TUN} acme bond -- ip -json route", blocks("nft")[0])
     found = {(route["dst"], route.get("gateway"), route["dev"]) for route in json.loads(text)}
     expect_equal(found, {("10.0.1.0/30", None, "acme"), ("10.0.2.0/30", None, "bond"),
                          ("10.2.1.0/24", "10.0.1.2", "acme"), ("10.2.2.0/24", "10.0.2.2", "bond")}, "routes")
 
 
-# The differences in the script of the other host.
+# The differences in the script and in the rules of the other host.
 SOUTH = (("10.0.1.1/30", "10.0.1.2/30"), ("10.0.2.1/30", "10.0.2.2/30"),
          ("10.2.1.0/24 via 10.0.1.2", "10.1.1.0/24 via 10.0.1.1"),
          ("10.2.2.0/24 via 10.0.2.2", "10.1.2.0/24 via 10.0.2.1"))
+SOUTH_RULES = (("192.0.2.2", "192.0.2.1"), ("10.1.1.0/24", "10.2.1.0/24"), ("10.1.2.0/24", "10.2.2.0/24"))
 
-# The two hosts of the page: $1 and $2 are their scripts, $3 and $4 their files, $5 the tool and $6 the gateway. Each
-# has its own network, /run and /var/lib. An echo goes to each tenant, and then both hosts say what they sent.
+# Seconds for which both tenants send, in the place of the page's.
+SENDING = 5
+
+# The two hosts of the page, with the files of the folder $1, and a host `lan` in the network of acme behind north. The
+# two have their own network, /run, /etc and /var/lib. They play the blocks of the page, and then say what they sent.
 TWO_HOSTS = """
-host='ip link set dev lo up; mount -t tmpfs none /run; mount -t tmpfs none /var/lib
-    mkdir -p /run/stridelink /var/lib/stridelink/tunnel; echo "$2" > /run/tunnel.toml; read _ < "$5"
-    sh -ec "$1"; exec "$3" acme bond -- "$4" gateway /run/tunnel.toml'
-folder=$(mktemp -d); trap 'rm -r "$folder"' EXIT
-mkfifo "$folder/north" "$folder/south"
-unshare --net --mount sh -ec "$host" sh "$1" "$3" "$5" "$6" "$folder/north" & north=$!
-unshare --net --mount sh -ec "$host" sh "$2" "$4" "$5" "$6" "$folder/south" & south=$!
-for side in $north $south; do
+folder=$1
+host='ip link set dev lo up
+    for each in /run /var/lib /etc; do mount -t tmpfs none $each; done
+    mkdir -p /run/stridelink /var/lib/stridelink/tunnel /etc/stridelink /etc/sysctl.d
+    cp "$1"/* /etc/stridelink; read _ < "$1.go"
+    sh -e "$2/prepare" > /dev/null; /etc/stridelink/tunnel-devices
+    exec stridelink-tun acme bond -- stridelink gateway /etc/stridelink/tunnel.toml'
+mkfifo "$folder/north.go" "$folder/south.go" "$folder/lan.go"
+unshare --net --mount sh -ec "$host" sh "$folder/north" "$folder" & north=$!
+unshare --net --mount sh -ec "$host" sh "$folder/south" "$folder" & south=$!
+unshare --net sh -c 'read _ < "$1"' sh "$folder/lan.go" & lan=$!
+for side in $north $south $lan; do
     while [ "$(readlink /proc/$side/ns/net)" = "$(readlink /proc/$$/ns/net)" ]; do sleep 0.1; done
 done
-ip link add name wire netns $north type veth peer name wire netns $south
-nsenter -t $north --net sh -ec 'ip address add 192.0.2.1/24 dev wire; ip link set dev wire up'
-nsenter -t $south --net sh -ec 'ip address add 192.0.2.2/24 dev wire; ip link set dev wire up'
-echo > "$folder/north"; echo > "$folder/south"
+on() { side=$1; shift; nsenter -t $side --net --mount "$@"; }
+join() {
+    ip link add name $2 netns $1 type veth peer name $5 netns $4
+    on $1 sh -ec 'ip address add $2 dev $1; ip link set dev $1 up' sh $2 $3
+    on $4 sh -ec 'ip address add $2 dev $1; ip link set dev $1 up' sh $5 $6
+}
+join $north wire 192.0.2.1/24 $south wire 192.0.2.2/24
+join $north lan 10.1.1.1/24 $lan lan 10.1.1.9/24
+on $lan ip route add default via 10.1.1.1
+on $south sh -ec 'for each in 10.2.1.1 10.2.2.1; do ip address add $each/32 dev lo; done'
+echo > "$folder/north.go"; echo > "$folder/south.go"
 for tenant in 1 2; do
-    nsenter -t $north --net sh -c "until ping -n -q -c 1 -W 1 10.0.$tenant.2; do sleep 0.2; done" > /dev/null 2>&1
+    until on $north ping -n -q -c 1 -W 1 10.0.$tenant.2; do sleep 0.2; done > /dev/null 2>&1
 done
-for side in $north $south; do nsenter -t $side --net --mount "$6" ask unix:/run/stridelink/tunnel status end; done
-wait
+echo "== see"; on $north sh -e "$folder/see"
+echo "== lan"
+taken_of_bond() {
+    on $north stridelink ask unix:/run/stridelink/tunnel status | grep -o '"taken_packets":[0-9]*' | tail -n 1
+}
+before=$(taken_of_bond)
+for address in 10.2.1.1 10.2.2.1; do on $lan ping -n -q -c 2 -W 1 $address | grep -o '[0-9] received' || true; done
+[ "$(taken_of_bond)" = "$before" ] || echo "bond pays for acme"
+echo "== iperf3"; on $south sh -e "$folder/servers"; sleep 1; on $north sh -e "$folder/clients"
+echo "== end"
+for side in $north $south; do on $side stridelink ask unix:/run/stridelink/tunnel status end; done
+wait $north $south
 """
 
 
-def tunnel(_):
-    """The two hosts of docs/TUNNEL.md: an echo of each tenant passes, and the status of both gateways has it."""
+def swapped(text, pairs):
+    """A text of north as it is on south."""
+    for old, new in pairs:
+        expect(old in text, f"{old} in docs/TUNNEL.md")
+        text = text.replace(old, new)
+    return text
+
+
+def two_hosts(folder):
+    """Writes what the page has to a folder: the files of both hosts, its blocks, and the commands on the PATH."""
+    devices, rules = blocks("sh")[0], blocks("nft")[0]
+    files = (("north", devices, rules), ("south", swapped(devices, SOUTH), swapped(rules, SOUTH_RULES)))
+    for (side, script, firewall), settings in zip(files, blocks("toml")):
+        os.mkdir(os.path.join(folder, side))
+        for name, text in (("tunnel-devices", script), ("tunnel.nft", firewall), ("tunnel.toml", settings)):
+            write(os.path.join(folder, side), name, text)
+    see = "".join(line for line in block("sh", "ping -c 3").splitlines(True) if not line.startswith("journalctl"))
+    clients = block("sh", "iperf3 -c").replace("-t 30", f"-t {SENDING}")
+    for name, text in (("prepare", block("sh", "chmod +x")), ("see", see), ("servers", block("sh", "iperf3 -s")),
+                       ("clients", clients)):
+        write(folder, name, text)
+    os.mkdir(os.path.join(folder, "bin"))
+    for name, path in (("stridelink", PROGRAM), ("stridelink-tun", TUN),
+                       ("stridelink-statement", os.path.join(TOOLS, "statement"))):
+        os.symlink(path, os.path.join(folder, "bin", name))
+
+
+def tunnel(run):
+    """The two hosts of docs/TUNNEL.md: echoes pass, and a tenant's network does not reach another one's. While both
+    tenants send, each receives by its tickets, and the status of both gateways has what was sent."""
     if not os.path.exists(GATEWAY):
         print("tun.py: no program of gateways, and the tunnel of the page is not tried", file=sys.stderr)
         return
-    script = blocks("sh")[0]
-    south = script
-    for old, new in SOUTH:
-        expect(old in south, f"{old} in docs/TUNNEL.md")
-        south = south.replace(old, new)
-    status, text, said = alone(TWO_HOSTS, script, south, *blocks("toml"), TUN, GATEWAY)
-    lines = text.splitlines()
-    expect_equal((status, lines[1::2]), (0, ["ok", "ok"]), f"the end of the tunnel: {said}")
+    folder = run.folder()
+    two_hosts(folder)
+    path = os.pathsep.join([os.path.join(folder, "bin"), os.environ["PATH"], "/usr/sbin"])
+    status, text, said = alone(f"PATH={path}\n{TWO_HOSTS}", folder)
+    found = dict(re.findall(r"^== (\w+)\n(.*?)(?=^== |\Z)", text, re.MULTILINE | re.DOTALL))
+    expect_equal((status, list(found)), (0, ["see", "lan", "iperf3", "end"]), f"the end of the tunnel: {said}")
+    for line in ("3 received", "\nbook 2\n", "\nlink tunnel, ", "\nacme "):
+        expect(line in found["see"], f"{line!r} in {found['see']}")
+    expect_equal(found["lan"], "2 received\n0 received\n", "echoes of acme's own and of bond's network")
+    rates = [float(rate) for rate in re.findall(r"([\d.]+) Mbits/sec +receiver", found["iperf3"])]
+    expect(len(rates) == 2 and 2 < max(rates) / min(rates) < 4, f"the shares of both tenants: {found['iperf3']}")
+    lines = found["end"].splitlines()
+    expect_equal(lines[1::2], ["ok", "ok"], "the ends of both gateways")
     for line in lines[0::2]:
         for tenant in json.loads(line)["tenants"]:
             expect(tenant["sent_packets"] >= 1, f"{tenant['name']} has sent nothing")

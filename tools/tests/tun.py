@@ -151,7 +151,7 @@ TWO_HOSTS = """
 folder=$1
 host='ip link set dev lo up
     for each in /run /var/lib /etc; do mount -t tmpfs none $each; done
-    mkdir -p /run/stridelink /var/lib/stridelink/tunnel /etc/stridelink /etc/sysctl.d
+    mkdir -p /run/stridelink/tunnel /var/lib/stridelink/tunnel /etc/stridelink /etc/sysctl.d
     cp "$1"/* /etc/stridelink; read _ < "$1.go"
     sh -e "$2/prepare" > /dev/null; /etc/stridelink/tunnel-devices
     exec stridelink-tun acme bond -- stridelink gateway /etc/stridelink/tunnel.toml'
@@ -179,14 +179,14 @@ done
 echo "== see"; on $north sh -e "$folder/see"
 echo "== lan"
 taken_of_bond() {
-    on $north stridelink ask unix:/run/stridelink/tunnel status | grep -o '"taken_packets":[0-9]*' | tail -n 1
+    on $north stridelink ask unix:/run/stridelink/tunnel/control status | grep -o '"taken_packets":[0-9]*' | tail -n 1
 }
 before=$(taken_of_bond)
 for address in 10.2.1.1 10.2.2.1; do on $lan ping -n -q -c 2 -W 1 $address | grep -o '[0-9] received' || true; done
 [ "$(taken_of_bond)" = "$before" ] || echo "bond pays for acme"
 echo "== iperf3"; on $south sh -e "$folder/servers"; sleep 1; on $north sh -e "$folder/clients"
 echo "== end"
-for side in $north $south; do on $side stridelink ask unix:/run/stridelink/tunnel status end; done
+for side in $north $south; do on $side stridelink ask unix:/run/stridelink/tunnel/control status end; done
 wait $north $south
 """
 

@@ -1,7 +1,8 @@
 #!/usr/bin/env python3
 """Runs each block of docs/RUNNING.md as it stands, in a root with the package and a network of its own, and compares
-what is printed with the page. The folder of the books is a small disk. A stand-in for systemctl runs the commands of
-the units that are installed, and PostgreSQL runs for this test alone. That takes the rights of root."""
+what is printed with the page. A stand-in for systemctl runs the commands of the units that are installed, and
+PostgreSQL runs for this test alone. Nothing is downloaded: the machine has the packages that the page installs. That
+takes the rights of root."""
 import os
 import re
 import shutil
@@ -45,12 +46,10 @@ case $verb in
 esac
 """
 
-# Makes the network and the disk of the root in which the page is run. They end with it.
+# Makes the network and the folder of the root in which the page is run. They end with it.
 BEGIN = """
 set -eu
 ip link set lo up
-mkdir -p /var/lib/stridelink/uplink
-mount -t tmpfs -o size=8m tmpfs /var/lib/stridelink/uplink
 mkdir /tmp/day
 cd /tmp/day
 cp /tmp/*.deb .
@@ -101,13 +100,14 @@ def day(run):
     shutil.copy(package.built(), os.path.join(root.path("tmp"), os.path.basename(package.built())))
     write(root.path("tmp"), "systemctl", SYSTEMCTL)
     root.tell("sh", "-c", "install /tmp/systemctl /usr/bin/systemctl; mkdir -p /etc/dpkg/dpkg.cfg.d; "
-                          "echo no-triggers > /etc/dpkg/dpkg.cfg.d/day")
+                          "echo no-triggers > /etc/dpkg/dpkg.cfg.d/day; "
+                          "echo 'APT::Install-Recommends \"false\";' > /etc/apt/apt.conf.d/day")
     os.chmod(root.folder, 0o755)
     sockets = root.path("run/postgresql")
     os.mkdir(sockets)
     shutil.chown(sockets, links.USER, links.USER)
-    engine = links.Engine(run, sockets)
-    commands, printed = play(root, {"PGHOST": "/run/postgresql", "PGUSER": engine.user})
+    links.Engine(run, sockets)
+    commands, printed = play(root, {"PGHOST": "/run/postgresql"})
     for (command, shown, number), found in zip(commands, printed):
         found = found.strip("\n")
         expect(re.fullmatch(pattern_of(shown), found, re.DOTALL),

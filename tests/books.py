@@ -40,6 +40,7 @@ NO_TARIFFS = "its book has no row, and no file of tariffs is beside it"
 NAME = "its name is not that of a book's text, as 000001.lengths"
 TWICE = "its book is given twice"
 BAD = "the row of its book says bad"
+NO_BOOK = "the row of its book says none"
 FIGURES = (("sha256", "its sha256 is not that of its row"), ("units", "its units are not those of its row"),
            ("amount", "its amount is not that of its row"))
 
@@ -98,7 +99,7 @@ def are_tariffs(word):
 
 READS = dict.fromkeys(NAMES, is_number) | {
     "kind": lambda word: word in ("whole", "lengths"), "opened": is_time, "closed": is_time, "tariffs": are_tariffs,
-    "why": lambda word: word in ("spent", "period", "reload", "rotate", "end", "cut", "bad"),
+    "why": lambda word: word in ("spent", "period", "reload", "rotate", "end", "cut", "bad", "none"),
     "sha256": lambda word: re.fullmatch("[0-9a-f]{64}", word) is not None}
 
 
@@ -143,28 +144,33 @@ def given_numbers(rows_path, rows, paths):
     """The numbers of the books of these paths. Raises Wrong with the first fault."""
     numbers = [number_in(path) for path in paths]
     bad = {int(row["book"]) for row in rows if row["why"] == "bad"}
+    none = {int(row["book"]) for row in rows if row["why"] == "none"}
     for place, number in enumerate(numbers):
         if number in numbers[:place]:
             raise Wrong(paths[place], TWICE)
         if number in bad:
             raise Wrong(paths[place], BAD)
+        if number in none:
+            raise Wrong(paths[place], NO_BOOK)
     wanted = range(int(rows[0]["book"]), int(rows[-1]["book"]) + 1) if rows else ()
     for number in wanted:
-        if number not in numbers and number not in bad:
+        if number not in numbers and number not in bad | none:
             raise Wrong(rows_path, "book %d is not given" % number)
     return numbers
 
 
 def tariffs_beside(path, number):
-    """The tariffs of a book without a row. Raises Wrong if there are none."""
+    """The tariffs in the file beside the text of a book. Raises Wrong if there are none."""
     try:
         with open(os.path.join(os.path.dirname(path), "%06d.tariffs" % number), encoding="latin-1", newline="") as file:
             text = file.read()
     except FileNotFoundError:
         raise Wrong(NO_TARIFFS) from None
-    if not text.endswith("\n") or text == "\n" or not are_tariffs(text[:-1]):
+    tariffs, feed, opened = text.partition("\n")
+    is_opened = opened == "" or opened[-1] == "\n" and is_time(opened[:-1])
+    if not tariffs or not feed or not are_tariffs(tariffs) or not is_opened:
         raise Wrong("the file of its tariffs has no tariffs")
-    return text[:-1]
+    return tariffs
 
 
 def checked(rows, path, number):
@@ -182,6 +188,12 @@ def checked(rows, path, number):
     return flows, cut
 
 
+def bad_lines(rows_path, rows):
+    """What is said of the rows whose text is no run."""
+    return "".join("%s: book %s is bad, and has no bill\n" % (rows_path, row["book"])
+                   for row in rows if row["why"] == "bad")
+
+
 def said_of(path, wrong):
     """The line on a path: with the number of a line, if there is one."""
     return "%s%s: %s\n" % (path, "".join(":%d" % number for number in wrong.args[:-1]), wrong.args[-1])
@@ -196,8 +208,7 @@ def wanted_of(rows_path, paths, form):
     except Wrong as wrong:
         return 1, "", said_of(rows_path, wrong)
     said = "%s:%d: %s\n" % (rows_path, cut, CUT) if cut else ""
-    said += "".join("%s: book %s is bad, and has no bill\n" % (rows_path, row["book"])
-                    for row in rows if row["why"] == "bad")
+    said += bad_lines(rows_path, rows)
     try:
         numbers = given_numbers(rows_path, rows, paths)
     except Wrong as wrong:
@@ -285,11 +296,11 @@ class Folder:
     books: list = field(default_factory=list)
 
     def add(self, kind, tariffs, text, why="period", number=None):
-        """A closed book with its row. A book whose text is no run has no file here."""
+        """A closed book with its row. A book whose text is no run has no file here, and a number without a book none at
+        all."""
         number = len(self.rows) + 1 if number is None else number
-        if why == "bad":
+        if why in ("bad", "none"):
             figures = dict.fromkeys(("events", "packets", "bytes", "units", "amount"), "0") | {"sha256": "a" * 64}
-            tariffs = ""
         else:
             figures = run(text, tariffs)[2]
             self.write("%06d.%s" % (number, "audit" if kind == "whole" else "lengths"), text)
@@ -480,6 +491,20 @@ def bad(folder):
     expect_equal(compare(rows, first.books, "bad rows around"), (0, said), "bad rows around")
 
 
+def none(folder):
+    """A number without a book: no file of it is wanted, nothing is said of it, and none may be given."""
+    books = usual(folder, "none").add("lengths", "", b"", "none").add("lengths", OWN, LENGTHS)
+    rows = books.save()
+    for form in FORMS:
+        expect_billed(compare(rows, books.books, "a number without a book", form), "", "a number without a book")
+    books.write("000004.lengths", LENGTHS)
+    expect_equal(compare(rows, books.books, "a book without one"), (1, "%s: %s\n" % (books.books[-1], NO_BOOK)),
+                 "a book of a number without one")
+    only = made(folder, "only").add("lengths", "", b"", "none").add("lengths", "", b"", "none")
+    only.open(3, OWN + "\n", LENGTHS)
+    expect_billed(compare(only.save(), only.books, "no other row"), "", "no other row")
+
+
 def open_books(folder):
     """The open book has no row: the file beside it has its tariffs."""
     books = usual(folder, "open").open(4, OWN + "\n", LENGTHS + b"send a 9")
@@ -489,7 +514,12 @@ def open_books(folder):
             text, LENGTHS.count(b"\n") + 1, CUT), "an open book")
     expect_equal(run_bill("--csv", "--books", "books.csv", *map(os.path.basename, books.books), folder=books.path)[:2],
                  wanted_of(rows, books.books, "csv")[:2], "an open book without a folder")
-    for beside in ("", "\n", OWN, OWN + " \n", "0/0/1\n", OWN + "\n\n", OWN + "\r\n", "\xff\n"):
+    for beside in (OWN + "\n", OWN + "\n" + TIME + "\n"):
+        with open(books.beside("000004.tariffs"), "w", encoding="ascii") as file:
+            file.write(beside)
+        expect_equal([compare(rows, books.books, "tariffs %r" % beside)[0]], [0], beside)
+    for beside in ("", "\n", OWN, OWN + " \n", "0/0/1\n", OWN + "\n\n", OWN + "\r\n", "\xff\n", OWN + "\n" + TIME,
+                   OWN + "\n" + TIME + "\n\n", TIME + "\n"):
         with open(books.beside("000004.tariffs"), "wb") as file:
             file.write(beside.encode("latin-1"))
         expect_said(compare(rows, books.books, "tariffs %r" % beside), "the file of its tariffs has no tariffs", beside)
@@ -503,6 +533,21 @@ def open_books(folder):
     alone = made(folder, "alone").open(1, STANDARD + "\n", WHOLE)
     for text in ("", HEADER + "\n", HEADER):
         compare(alone.save_text(text), alone.books, "no row, with %r" % text)
+
+
+def closed_without_row(folder):
+    """A closed text without its row has its tariffs in the file beside it. One without either is refused by name."""
+    books = usual(folder, "closed")
+    books.add("lengths", OWN, LENGTHS).add("whole", "1/0/3 48/16/2", WHOLE)
+    books.rows = books.rows[:3]
+    rows = books.save()
+    for number, tariffs in ((4, OWN), (5, "1/0/3 48/16/2")):
+        said = "%s: %s\n" % (books.books[number - 1], NO_TARIFFS)
+        status, found = compare(rows, books.books[:number], "book %d without a row" % number)
+        expect_equal((status, found), (1, said), "book %d without a row" % number)
+        with open(books.beside("%06d.tariffs" % number), "w", encoding="ascii") as file:
+            file.write("%s\n%s\n" % (tariffs, TIME))
+        expect_billed(compare(rows, books.books[:number], "a file of tariffs"), "", "a file of tariffs")
 
 
 def names(folder):
@@ -610,7 +655,8 @@ def plans(folder):
     expect_equal((status, printed), (1, ""), "no file of a plan")
 
 
-CASES = (good, missing, altered_texts, altered_rows, wrong_lines, bad, open_books, names, words, plans)
+CASES = (good, missing, altered_texts, altered_rows, wrong_lines, bad, none, open_books, closed_without_row, names,
+         words, plans)
 
 
 def main():

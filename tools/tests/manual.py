@@ -156,6 +156,7 @@ def gateway_faults(run):
     """Each fault text of a gateway's program stands among the diagnostics."""
     texts = set()
     for path in (("gateway", "faults.rt"), ("gateway", "asking.rt"), ("gateway", "texts.rt"),
+                 ("gateway", "stack.rt"),
                  ("share_asking", "talk.rt"), ("share_news", "faults.rt")):
         texts |= fault_texts(source(*path))
     wanted = [text for text in texts if "{" not in text and text != "LINE" and not re.match(r"(unix|udp|fd)", text)]
@@ -175,6 +176,21 @@ def gateway_lines(run):
         paragraph(subsection(text, "Messages"), "`%s'" % kind)
     shown = set(re.findall(r"^     `(\w+)'(?: |$)", subsection(text, "Messages"), re.MULTILINE))
     expect_equal(sorted(shown), sorted(kinds), "kinds of messages")
+    words = dict(re.findall(r'Kind::(\w+) => "(\w+)"', source("share_messages", "kind.rt")))
+    expect_equal(sorted(words[name] for name in printed_kinds()), sorted(kinds), "kinds of messages that are printed")
+
+
+def printed_kinds():
+    """The kinds of messages that sources name outside of their own crate and of tests: what a gateway prints."""
+    crates = os.path.join(TOP, "crates")
+    found = set()
+    for crate in sorted(os.listdir(crates)):
+        folder = os.path.join(crates, crate, "src")
+        if crate == "share_messages" or crate.endswith("_tests") or not os.path.isdir(folder):
+            continue
+        texts = [source(crate, name) for name in os.listdir(folder) if name.endswith(".rt")]
+        found |= {name for text in texts if "share_messages" in text for name in re.findall(r"\bKind::(\w+)", text)}
+    return found
 
 
 def table_of_settings():

@@ -2,10 +2,11 @@
 ghost use Rattle.std.specs.Prelude.{◌≡◌, ◌+◌, ◌<◌, ◌≤◌, true, false};
 ghost use Rattle.share_doors.specs.Door.{counted, dropped_one, new_door, one_more};
 ghost use Rattle.share_doors.specs.Fills.{Drops, Fills};
+ghost use Rattle.share_doors.specs.Packets.{IsEmptied, IsEmpty};
 ghost use Rattle.share_doors.specs.Takes.{TakesOnly, can_take};
 ghost use Rattle.share_doors.specs.declared.door.Filled.TheVariants.{Full};
 
-use crate::connections::{Looked, count_at, end_all, look_over, over_port};
+use crate::connections::{Looked, count_at, end_all, look_over, over_port, take_refused};
 use crate::deliveries::Deliveries;
 use crate::packet_port::{ClosedPort, PacketPort};
 use crate::packet_reader::PacketReader;
@@ -339,6 +340,7 @@ impl Door {
         self.may_be_over |= sender.may_be_over();
         match came {
             Came::Packet(bytes) => {
+                sender.count_packet();
                 self.count(bytes);
                 true
             }
@@ -456,9 +458,10 @@ impl Door {
 
     // Drops what waits in the socket of a port.
     fn drop_waiting(&mut self, port: &mut PacketPort)
-        ensures { Drops self.old self.new }
+        ensures dropped { Drops self.old self.new }
+        ensures emptied { IsEmptied port.old port.new }
     {
-        'packets: for _ in 0..WAITING {
+        'packets: for turn in 0..WAITING {
             if !self.drop_packet(port) {
                 break;
             }
@@ -467,7 +470,9 @@ impl Door {
 
     // Drops the next packet of a port. Returns false if it has none.
     fn drop_packet(&mut self, port: &mut PacketPort) -> bool
-        ensures { Drops self.old self.new }
+        ensures dropped { Drops self.old self.new }
+        ensures more { result ≡ true → port.new.reads ≡ one_more port.old.reads }
+        ensures none { result ≡ false → IsEmpty port.new }
     {
         match port.discard(&mut self.reader) {
             Came::Packet(_) => unreachable!(),
@@ -479,6 +484,13 @@ impl Door {
             Came::Nothing => false,
             Came::Over(_) => false,
         }
+    }
+
+    /// Removes and returns the number of packets of its packet ports that found no memory, and were dropped.
+    pub fn take_refused(&mut self) -> u64
+        ensures { self.new ≡ self.old }
+    {
+        take_refused(&mut self.ports)
     }
 
     /// Closes a packet port that is over, and says which it was. `None` if no port is over.

@@ -61,11 +61,13 @@ pub enum Came {
     Over(ClosedWhy),
 }
 
-/// A connection that was closed: the token that its events carried, the port by which it came, and why.
+/// A connection that was closed: the token that its events carried, the port by which it came, the number of packets that
+/// were taken of it, and why.
 #[derive(Clone, Copy, Debug, PartialEq, Eq)]
 pub struct ClosedSender {
     pub token: usize,
     pub port: usize,
+    pub packets: u64,
     pub why: ClosedWhy,
 }
 
@@ -88,6 +90,8 @@ pub struct Sender {
     takes_records: bool,
     // The number of packets that it was given.
     given: u64,
+    // The number of packets that were taken of it.
+    packets: u64,
 }
 
 impl Drop for Sender {
@@ -104,6 +108,7 @@ impl Drop for Sender {
             outgoing,
             takes_records: _,
             given: _,
+            packets: _,
         } = self;
         drop(stream);
         drop(records);
@@ -134,6 +139,7 @@ impl Sender {
                 outgoing: Outgoing::new(alloc),
                 takes_records: true,
                 given: 0,
+                packets: 0,
             }),
         }
     }
@@ -168,8 +174,16 @@ impl Sender {
         Some(ClosedSender {
             token: self.token,
             port: self.port,
+            packets: self.packets,
             why,
         })
+    }
+
+    /// A packet was taken of it.
+    pub(crate) fn count_packet(&mut self)
+        ensures { self.new.packets ≡ one_more self.old.packets }
+    {
+        self.packets = self.packets.saturating_add(1);
     }
 
     /// Its socket was reported ready, and if so, that the far end sends no more.

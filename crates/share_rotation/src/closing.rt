@@ -1,6 +1,7 @@
 //! The close of a book, and the beginning of the next one.
 
 use crate::books::Books;
+use crate::closed::ClosedBook;
 use crate::moments::{end_of_period, is_past, time_now};
 use crate::succession::Succession;
 use share_book::Book;
@@ -117,6 +118,7 @@ impl Books {
         close: BookClose,
         now: Instant,
     ) {
+        self.closed = Some(ClosedBook::of(self.number, &close));
         self.number = self.number.saturating_add(1);
         self.opened = close.closed;
         let _ = self.queue.begin_next(rt, self.number, tariffs, close);

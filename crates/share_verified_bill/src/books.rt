@@ -6,10 +6,10 @@ use crate::given_files::tariffs_path;
 use crate::rows_file::{bytes_of, say};
 use share_bill::{NotBilled, TenantTotal, add_rows};
 use share_billing::CutLine;
-use share_catalog::{BookTariff, Mismatch, Row};
+use share_catalog::{BookTariff, Mismatch, Row, read_beginning};
 use share_disk::rates_of;
 use share_tariff::PlainShelf;
-use share_verification::{BookFigures, first_mismatch, read_tariffs, row_of};
+use share_verification::{BookFigures, first_mismatch, row_of};
 use std::alloc::{AllocError, Global};
 use std::fs::{File, Files};
 use std::io::{Eprint, ErrorKind};
@@ -37,10 +37,10 @@ fn shelf_of(
     }
 }
 
-// The shelf of the tariffs that bytes spell.
+// The shelf of the tariffs in the bytes of their file.
 fn shelf_in(alloc: Global, bytes: &[u8]) -> Result<PlainShelf, BookFault> {
-    match read_tariffs(bytes) {
-        Some(tariffs) => shelf_of(alloc, tariffs.as_slice(), BookFault::NotTariffs),
+    match read_beginning(bytes) {
+        Some(beginning) => shelf_of(alloc, beginning.tariffs.as_slice(), BookFault::NotTariffs),
         None => Err(BookFault::NotTariffs),
     }
 }

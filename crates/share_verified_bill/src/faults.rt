@@ -111,6 +111,7 @@ fn reason_of(fault: BookFault) -> &'static str {
         BookFault::Name => "its name is not that of a book's text, as 000001.lengths",
         BookFault::Given(WrongGiven::Twice) => "its book is given twice",
         BookFault::Given(WrongGiven::Bad) => "the row of its book says bad",
+        BookFault::Given(WrongGiven::NoBook) => "the row of its book says none",
         BookFault::RowWithoutTariffs => "the row of its book has no tariffs",
         BookFault::NoTariffs => "its book has no row, and no file of tariffs is beside it",
         BookFault::NotTariffs => "the file of its tariffs has no tariffs",

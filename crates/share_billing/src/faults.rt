@@ -1,9 +1,9 @@
 //! Why a book has no bill.
 
-use share_bill::{NotBilled, Wrong};
+use share_bill::NotBilled;
 use std::fmt;
 use std::fmt::{Display, Formatter};
-use std::io::Error;
+use std::io::{Eprint, Error};
 
 /// Why a book has no bill.
 #[derive(Clone, Copy, Debug)]
@@ -69,4 +69,18 @@ impl<'a> Display for CutLine<'a> {
             "{path}:{number}: the last line has no line feed, and is left out"
         )
     }
+}
+
+/// Prints that the last line of a text is left out, if it is cut.
+pub(crate) fn say_cut(rt: &impl Eprint, path: &str, cut: Option<u64>) {
+    if let Some(number) = cut {
+        let cut = CutLine { path, number };
+        let _ = eprintln!(rt; "{cut}");
+    }
+}
+
+/// Prints why a book has no bill. The status says so even if standard error takes no text.
+pub(crate) fn say_fault(rt: &impl Eprint, path: &str, fault: BookFault) {
+    let line = FaultLine { path, fault };
+    let _ = eprintln!(rt; "{line}");
 }

@@ -25,8 +25,13 @@ class Row:
         """The name of the text of its book."""
         return "%06d.%s" % (int(self["book"]), ENDINGS[self["kind"]])
 
+    def is_bad(self):
+        """Whether its text is no run."""
+        return self["why"] == "bad"
+
     def has_text(self):
-        return self["why"] != "bad"
+        """Whether it has a text that is a run. A row that says none has no book."""
+        return self["why"] not in ("bad", "none")
 
 
 class Folder:

@@ -4,7 +4,8 @@
 --       stridelink-statement --csv --from 2026-11 --to 2026-12 /var/lib/stridelink/$link | sed 1d
 --   done | psql -f statements.sql
 --
--- The table stays. A statement that was taken already is refused, and then nothing is taken.
+-- The table stays. A statement that was taken already is refused, and then nothing is taken. The column missing has the
+-- numbers of bad books, which the sums lack.
 
 \set ON_ERROR_STOP on
 
@@ -19,8 +20,11 @@ create table if not exists statements (
     bytes numeric not null,
     units numeric not null,
     amount numeric not null,
+    missing text not null default '',
     primary key (link, begins, tenant)
 );
+
+alter table statements add column if not exists missing text not null default '';
 
 \copy statements from pstdin with (format csv)
 

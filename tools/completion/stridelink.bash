@@ -12,7 +12,7 @@ _stridelink() {
         serve)
             wanted="--ingress --control --uplink --audit --workers --life --clerks --force --until-eof --verbose --help"
             ;;
-        bill) wanted="--csv --json --books --plan --help" ;;
+        bill) wanted="--csv --json --books --plan --repair --help" ;;
         gateway) wanted="--check --grace --until-eof --quiet --help" ;;
         ask)
             wanted="report status hold resume amend rotate reload end --help"

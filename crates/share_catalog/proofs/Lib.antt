@@ -1,3 +1,4 @@
+pub mod BeginningLemmas
 pub mod DigestLemmas
 pub mod BilledLemmas
 pub mod NameLemmas

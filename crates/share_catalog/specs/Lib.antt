@@ -1,3 +1,4 @@
+pub mod Beginnings
 pub mod Billed
 pub mod Folder
 pub mod Names

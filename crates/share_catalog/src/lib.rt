@@ -2,6 +2,7 @@
 //! The caller reads and writes the files.
 #![tactic(auto)]
 
+mod beginning;
 mod billed;
 mod digest;
 mod fields;
@@ -15,6 +16,7 @@ mod tariffs;
 mod text;
 mod time;
 
+pub use beginning::{Beginning, beginning_lines, read_beginning};
 pub use billed::{Mismatch, compare, first_missing};
 pub use digest::Digest;
 pub use folder::{next_number, whole_lines};
@@ -22,6 +24,6 @@ pub use kinds::{Closing, TextKind};
 pub use laws::names_are_one_to_one;
 pub use names::{BookFile, FileKind, file_name, read_file_name};
 pub use row::{Column, Row, Totals, header_line, read_row, row_line};
-pub use tariffs::{BookTariff, MAX_TARIFFS, Tariffs, tariffs_line};
+pub use tariffs::{BookTariff, MAX_TARIFFS, Tariffs};
 pub use text::ShortText;
 pub use time::Time;

@@ -1,6 +1,6 @@
 //! The requests in the words of the command line.
 
-use share_billing::Form;
+use share_billing::{Extent, Form};
 use share_settings::Listener;
 
 /// The orders for the run of a gateway.
@@ -45,6 +45,8 @@ pub enum BillTariffs<'a> {
 pub struct BillOrders<'a> {
     /// The files of their texts.
     pub files: Vec<&'a str>,
+    /// The part of each text that is billed.
+    pub extent: Extent,
     pub form: Form,
     pub tariffs: BillTariffs<'a>,
 }

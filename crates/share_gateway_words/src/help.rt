@@ -59,7 +59,11 @@ With --books they are those of the rows of ROWS, the books.csv of a gateway. The
 has the name that the gateway gave it, and each book from the first to the last row has to
 be given, once. The digest of a text, its units and its amount have to be those of its
 row. A book without a row has its tariffs in the file beside it, as 000003.tariffs. A row
-whose why is bad is reported, and its book is not to be given.
+whose why is bad is reported, and its book is not to be given. A row whose why is none has
+no book, and no FILE of it is to be given.
+With --repair the bill of a FILE is that of its longest beginning, in whole lines, that is a
+run, as of 000004.bad. Standard error says where it ends, and how many lines are billed. Any
+FILEs may be given, and rows give them their tariffs alone.
 A book that is still open can be billed: a last line without its line feed is left out,
 and standard error names its file and number.
 Exit statuses:

@@ -1,21 +1,20 @@
 //! The file of the rows.
+ghost use Rattle.std.specs.Prelude.{IfOk};
+ghost use Rattle.share_verified_bill.specs.Verified.{AreRows, IsRead};
 
 use crate::faults::{BadLine, BookFault, FaultLine};
-use share_billing::{CutLine, NotShown};
+use share_billing::{CutLine, NotShown, TextFiles};
 use share_catalog::{Row, whole_lines};
 use share_verification::{NotRows, is_bad, read_rows};
 use std::alloc::Global;
-use std::fs::{File, Files};
 use std::io::{Eprint, Read};
-use std::{fs, io};
+use std::io;
 
 /// The bytes of a file.
-pub(crate) fn bytes_of<R: Files<File = File>>(
-    rt: &R,
-    alloc: Global,
-    path: &str,
-) -> io::Result<Vec<u8>> {
-    let mut file = fs::open(rt, path)?;
+pub(crate) fn bytes_of<F: TextFiles>(files: &F, alloc: Global, path: &str) -> io::Result<Vec<u8>>
+    ensures { IfOk result (λ bytes. IsRead (F.opens files.now path.now) F.Text.remaining bytes.items) }
+{
+    let mut file = files.open(path)?;
     let mut bytes = Vec::new(alloc);
     file.read_to_end(&mut bytes)?;
     Ok(bytes)
@@ -30,12 +29,15 @@ pub(crate) fn say(rt: &impl Eprint, path: &str, fault: BookFault) -> NotShown {
 
 /// The rows of a file. Standard error has a line for each whose text is no run, and one if the last line of the file is
 /// cut.
-pub(crate) fn rows_in<R: Files<File = File> + Eprint>(
+pub(crate) fn rows_in<R: Eprint, F: TextFiles>(
     rt: &R,
+    files: &F,
     alloc: Global,
     path: &str,
-) -> Result<Vec<Row>, NotShown> {
-    let bytes = match bytes_of(rt, alloc, path) {
+) -> Result<Vec<Row>, NotShown>
+    ensures { IfOk result (λ rows. AreRows (F.opens files.now path.now) F.Text.remaining rows.items) }
+{
+    let bytes = match bytes_of(files, alloc, path) {
         Ok(bytes) => bytes,
         Err(fault) => return Err(say(rt, path, BookFault::File(fault))),
     };

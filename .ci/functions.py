@@ -67,14 +67,18 @@ def functions_of(text):
 
 
 def opening_of(lines, declared, indent):
-    """The line that opens the body of a function, or nothing if it has no body."""
+    """The line that opens the body of a function, or nothing if it has no body. The lines of its clauses are deeper than
+    the function, so a semicolon at the end of one does not end it."""
     for at in range(declared, len(lines)):
         line = lines[at]
-        if line == indent + "{" or line.endswith("{") and (at == declared or line.startswith(indent + ")")):
+        if line == indent + "{":
             return at
-        if at == declared and line.endswith("}"):
-            return at
-        if line.endswith(";"):
+        if at == declared or line.startswith((indent + ")", indent + ">")):
+            if line.endswith("{") or at == declared and line.endswith("}"):
+                return at
+            if line.endswith(";"):
+                return None
+        elif line and not line.startswith(indent + " ") and line != indent + "where":
             return None
     return None
 

@@ -346,6 +346,34 @@ def reloads(run):
     gateway.end()
 
 
+def waiting_moved(run):
+    """What waits in the socket of a port that goes to another tenant is dropped, and counts as dropped of the tenant
+    that had the port. The new tenant has what comes afterwards, and pays for nothing else."""
+    far = far_end(run)
+    moves, kept, other = (free_address() for _ in range(3))
+    a = Tenant([1], ["held = true", "packets = 4"], [moves, kept])
+    gateway = started(run, far, {"a": a, "b": Tenant([1], ports=[other])})
+    senders = {address: udp_socket(run, address) for address in (moves, kept, other)}
+    for number in range(10):
+        senders[moves].send(filled(100, number))
+    expect_counts(gateway, "a", 4, 0)
+    a.ports.remove(moves)
+    gateway.tenants["b"].ports.append(moves)
+    gateway.write()
+    gateway.control.expect("reload", "book 2")
+    expect_counts(gateway, "a", 4, 6)
+    wanted = [filled(50, number) for number in range(5)]
+    send_paced(far, senders[moves].send, 2, wanted)
+    expect_payloads(far, 2, wanted)
+    expect_counts(gateway, "b", 5, 0)
+    gateway.control.expect("resume a", "ok")
+    senders[kept].send(filled(70, 4))
+    expect_payloads(far, 1, [filled(100, number) for number in range(4)] + [filled(70, 4)])
+    gateway.end()
+    expect_equal(gateway.counted(), {name: (far.counts[flow], far.bytes[flow]) for flow, name in enumerate("ab", 1)},
+                 "the bill")
+
+
 def is_refused(sender):
     """Whether nobody has the address that a socket is connected to."""
     try:
@@ -403,7 +431,7 @@ def beside_connections(run):
 
 
 CASES = (boundaries, no_payloads, two_senders, connected_sockets, kernel_keeps, descriptors, descriptor_ends, no_ports,
-         reloads, shares, beside_connections)
+         reloads, waiting_moved, shares, beside_connections)
 
 
 if __name__ == "__main__":

@@ -32,6 +32,9 @@ MOST_WAITING = 16
 AHEAD = 32
 MANY = 400
 
+# The greatest flow number, and numbers on both sides of 64.
+FLOWS = {"a": 64, "b": 65, "c": 1024}
+
 # Another address of this host.
 OTHER_HOST = "127.0.0.2"
 
@@ -552,6 +555,41 @@ def packet_ports(run):
     far.end()
 
 
+def failed_descriptor(run):
+    """A packet that a descriptor refuses with a fault is lost, and counts so. The port is closed, with a line, and the
+    other ports of the tenant go on."""
+    ours, its = (run.keep(each) for each in socket.socketpair(socket.AF_UNIX, socket.SOCK_SEQPACKET))
+    peer = datagram_socket(run)
+    far = far_gateway(run, {"a": Tenant([1], ports=[f"fd:{its.fileno()}", "udp-to:%s:%d" % peer.getsockname()])},
+                      descriptors=[its.fileno()])
+    connection = raw(run, far)
+    ours.settimeout(PATIENCE)
+    give(connection, 0, [ours, peer], [])
+    its.shutdown(socket.SHUT_WR)
+    give(connection, 1, [peer], [])
+    wait_for(lambda: far.messages("closed"), "a line about a port that is closed")
+    expect_equal(far.tenant("a")["lost"], 1, "packets that are lost")
+    give(connection, 2, [peer], [])
+    expect_equal(far.tenant("a")["lost"], 1, "packets that are lost in all")
+    far.end()
+
+
+def great_numbers(run):
+    """Tenants of numbers up to the greatest have the packets of their frames. A number between them is a stranger's."""
+    far = far_gateway(run, {name: Tenant([1], [f"flow = {flow}"]) for name, flow in FLOWS.items()})
+    got = receivers(run, far, FLOWS)
+    wait_for(lambda: all(far.tenant(name)["connections"] == 1 for name in FLOWS), "the connections of the tenants")
+    connection = raw(run, far)
+    for number in range(20):
+        connection.sendall(b"".join(frame_of(number, flow) for flow in (*FLOWS.values(), 66, 1023)))
+    for received in got.values():
+        received.wait_for(20)
+        received.expect_all(20)
+    wait_for_counts(far, 100, 40)
+    expect_equal([tenant["lost"] for tenant in far.status()["tenants"]], [0] * len(FLOWS), "packets that are lost")
+    far.end()
+
+
 def datagrams(run):
     """A datagram that is exactly one frame is given. Any other is dropped, and nothing of it goes on in the next."""
     far = far_gateway(run, {"a": 1}, "udp")
@@ -632,7 +670,7 @@ def idle(run):
 
 CASES = (pair_over_tcp, pair_over_udp, tunnel, shares_over_tcp, shares_over_udp, far_end_comes_back, frames_in_pieces,
          forged_frames, version_one, cut_frames, strangers, replaced, many_wait, from_one_address, one_reads_nothing,
-         packet_ports, datagrams, uplink_of_datagrams, nothing_is_taken, idle)
+         packet_ports, failed_descriptor, great_numbers, datagrams, uplink_of_datagrams, nothing_is_taken, idle)
 
 
 def main():

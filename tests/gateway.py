@@ -11,6 +11,7 @@ import calendar
 import contextlib
 import itertools
 import os
+import selectors
 import shutil
 import signal
 import socket
@@ -26,12 +27,12 @@ sys.dont_write_bytecode = True
 
 import measured
 import paced
-from gatewaying import (COLUMNS, GATEWAY, HEADER, MOST_CONNECTIONS, MOST_CONTROLS, OUTBOX, SERVED, TARIFFS, WORDS,
-                        Play, Tenant, address_of, connect, frame_bytes, free_port, packet, records, run_gateway,
+from gatewaying import (COLUMNS, GATEWAY, HEADER, MARK, MOST_CONNECTIONS, MOST_CONTROLS, OUTBOX, SERVED, TARIFFS, WORDS,
+                        FarEnd, Play, Tenant, address_of, connect, frame_bytes, free_port, packet, records, run_gateway,
                         run_program)
 from measured import WINDOW, Flood, check_windows, judged_alone
-from serving import (LOOPBACK, PATIENCE, TOP, Failure, ends_by_itself, expect, expect_equal, record, reset, try_cases,
-                     wait_for)
+from serving import (LOOPBACK, PATIENCE, TOP, Failure, ends_by_itself, expect, expect_equal, record, reset, shortened,
+                     try_cases, wait_for)
 
 # Seconds for a case, and for all of them.
 LIMIT = 240
@@ -76,6 +77,28 @@ MOST_HELD = 2 * SMALLEST_BUFFER + 65536
 
 # The life of a short book.
 SHORTEST_LIFE = 131072
+
+# The tariffs of three files. The tenants of the first have its two.
+FIRST_TARIFFS = "1/0/2 64/8/3"
+NEXT_TARIFFS = "7/0/5 512/100/1 10/1/4"
+LAST_TARIFFS = "2048/0/7 5/5/5"
+
+# Tenants, and packets of each, whose texts are longer than the 256 KiB that wait for the disk at once.
+MANY_TENANTS = [f"t{number:02}" for number in range(1, 31)]
+MANY_PACKETS = 300
+
+# The greatest flow number, and numbers on both sides of 64.
+FLOWS = {"a": 64, "b": 65, "c": 1024}
+
+# Where the last byte of the flow number of a frame is.
+FLOW_AT = 6
+
+# Payloads of 20 bytes, a round of which has more frames than the buffers of four tenants have packets. Shares of these
+# are counted for that many seconds, and until the least share is that many frames. Before, as much is not counted.
+SMALL = 20
+SMALL_WINDOW = 1
+LEAST_SHARE = 100
+MOST_ERROR_OF_SMALL = 0.05
 
 # A shell that has mounts of its own, the room of a small disk, and how much of it is taken at first.
 OWN_MOUNTS = ["unshare", "--map-root-user", "--mount", "sh", "-c"]
@@ -551,6 +574,106 @@ def no_reloads(gateway):
     busy.close()
 
 
+def tariffs_reloaded(run):
+    """A reload that changes tariffs closes the open book under its own ones, and begins the next under those of the
+    file. Each row and each file of tariffs has those of its book, and the bill by rows is that of a plain model."""
+    far = run.far_end()
+    gateway = run.gateway(far, {"a": 1, "b": Tenant([1], ["tariff = 2"])}, tariffs=FIRST_TARIFFS)
+    sums = [sums_of_book(gateway, far, 1)]
+    for number, tariffs in ((2, NEXT_TARIFFS), (3, NEXT_TARIFFS), (4, None), (5, LAST_TARIFFS)):
+        if tariffs == gateway.tariffs:
+            gateway.control.expect("rotate", f"book {number}")
+        else:
+            reload_tariffs(gateway, tariffs, number)
+        sums.append(sums_of_book(gateway, far, number))
+    gateway.end()
+    expect_equal(gateway.whys(), ["reload", "rotate", "reload", "reload", "end"], "why books were closed")
+    expect_sums(gateway, sums)
+
+
+def killed_after_tariffs(run):
+    """A book that a reload began and a kill left open is closed and billed under the tariffs of that reload, whatever
+    those of the file at the next start are."""
+    far = run.far_end()
+    gateway = run.gateway(far, {"a": 1, "b": Tenant([1], ["tariff = 2"])}, tariffs=FIRST_TARIFFS)
+    sums = [sums_of_book(gateway, far, 1)]
+    reload_tariffs(gateway, NEXT_TARIFFS, 2)
+    sums.append(sums_of_book(gateway, far, 2))
+    wait_for(lambda: gateway.closed_books() == 1, "the row of the first book")
+    gateway.kill()
+    gateway.tariffs = gateway.under[3] = LAST_TARIFFS
+    gateway.write()
+    gateway.start()
+    sums.append(sums_of_book(gateway, far, 3))
+    gateway.end()
+    expect_equal(gateway.whys(), ["reload", "cut", "end"], "why books were closed")
+    expect_sums(gateway, sums)
+
+
+def reload_tariffs(gateway, tariffs, number):
+    """Has the next book begin under other tariffs."""
+    gateway.tariffs, gateway.under[number] = tariffs, tariffs or TARIFFS
+    gateway.write()
+    gateway.control.expect("reload", f"book {number}")
+
+
+def sums_of_book(gateway, far, number):
+    """Sends packets of a, whose tariff is the first, and of b, whose tariff is the second. The open book has its
+    tariffs in a file. What the packets of each come to in a bill."""
+    sizes = {"a": [4, 20, 100] * 5, "b": [47, 48, 1490] * 3}
+    before = far.frames()
+    for name, all_sizes in sizes.items():
+        for place, size in enumerate(all_sizes):
+            gateway.send(name, [place], size)
+    far.wait_for(before + sum(map(len, sizes.values())))
+    tariffs = gateway.tariffs_of(number)
+    with open(os.path.join(gateway.folder, f"{number:06}.tariffs"), encoding="ascii") as file:
+        expect_equal(file.read(), tariffs + "\n", f"the tariffs of the open book {number}")
+    return {name: priced(tariff, sizes[name]) for name, tariff in zip(sizes, tariffs.split())}
+
+
+def priced(tariff, sizes):
+    """What packets of these sizes come to under a tariff: their number, and their bytes, units and amount."""
+    cell, overhead, price = map(int, tariff.split("/"))
+    lengths = [frame_bytes(1, size) for size in sizes]
+    units = sum(overhead + cell * -(-length // cell) for length in lengths)
+    return len(sizes), sum(lengths), units, price * units
+
+
+def expect_sums(gateway, sums):
+    """Wants that each row has the sums of its book, and that the bill has those of all."""
+    for row, book in zip(gateway.rows(), sums):
+        wanted = tuple(map(sum, zip(*book.values())))
+        expect_equal(tuple(int(row[key]) for key in ("packets", "bytes", "units", "amount")), wanted,
+                     f"the row of book {row['book']}")
+    for name in "ab":
+        expect_equal(gateway.bill()[name], tuple(map(sum, zip(*(book[name] for book in sums)))), f"the bill of {name}")
+
+
+def one_of_two_ports(run):
+    """A reload that takes one of a tenant's two ports away ends the connections that came by it, and no others. What
+    these had sent stays, and they go on."""
+    for gone in range(2):
+        far = run.far_end()
+        tenant = Tenant([1], ["held = true", "packets = 4"], [address_of(free_port()) for _ in range(2)])
+        gateway = run.gateway(far, {"a": tenant})
+        clients = [run.keep(gateway.connect("a", port)) for port in range(2)]
+        stays = clients[1 - gone]
+        stays.sendall(records("a", range(20)))
+        wait_for(lambda: (gateway.tenant("a")["waiting"], gateway.tenant("a")["connections"]) == (4, 2), "both clients")
+        removed = tenant.ports.pop(gone)
+        gateway.write()
+        gateway.control.expect("reload", "book 2")
+        ends_by_itself(clients[gone])
+        expect_refused(removed)
+        expect_equal(gateway.tenant("a")["connections"], 1, "connections that stay")
+        gateway.control.expect("resume a", "ok")
+        stays.sendall(records("a", range(20, 30)))
+        far.wait_for(30)
+        far.expect_in_order(1, 30)
+        gateway.end()
+
+
 def reload_refused(run):
     """A file with a fault, a section that needs a restart, a number that is another's, and a port that cannot be
     listened at are answered `no ..`, and nothing changes: no book begins, and all connections go on."""
@@ -685,6 +808,50 @@ def whole(run):
     expect_equal(gateway.counted(), {"a": (100, far.bytes[1])}, "the bill")
 
 
+def much_is_carried(run):
+    """Packets whose texts are longer than all that waits for the disk at once are carried over to the next book. None
+    is dropped, and each comes once and in order."""
+    far = run.far_end()
+    tenants = {name: Tenant([1], ["held = true", f"packets = {MANY_PACKETS}"]) for name in MANY_TENANTS}
+    gateway = run.gateway(far, tenants, books_lines=['text = "whole"'])
+    for name in MANY_TENANTS:
+        gateway.send(name, range(MANY_PACKETS))
+    wanted = [(name, MANY_PACKETS) for name in MANY_TENANTS]
+    expect_equal(waiting_of(gateway), wanted, "packets that wait")
+    gateway.control.expect("rotate", "book 2")
+    expect_equal(waiting_of(gateway), wanted, "packets that are carried over")
+    expect_equal(gateway.messages("dropped"), [], "lines about packets that were dropped")
+    gateway.control.expect_all([f"resume {name}" for name in MANY_TENANTS], "ok")
+    far.wait_for(len(MANY_TENANTS) * MANY_PACKETS)
+    for flow in range(1, len(MANY_TENANTS) + 1):
+        far.expect_in_order(flow, MANY_PACKETS)
+    gateway.end()
+    expect_equal([int(row["packets"]) for row in gateway.rows()], [0, len(MANY_TENANTS) * MANY_PACKETS],
+                 "packets of the rows")
+
+
+def waiting_of(gateway):
+    """The tenants in the order of the file, with the number of packets that wait of each."""
+    return [(tenant["name"], tenant["waiting"]) for tenant in gateway.status()["tenants"]]
+
+
+def great_number(run):
+    """Tenants of numbers up to the greatest have their packets taken, counted as sent, and billed."""
+    far = run.far_end()
+    gateway = run.gateway(far, {name: Tenant([1], [f"flow = {flow}"]) for name, flow in FLOWS.items()})
+    for name in FLOWS:
+        gateway.send(name, range(600))
+    far.wait_for(600 * len(FLOWS))
+    for flow in FLOWS.values():
+        far.expect_in_order(flow, 600)
+    wanted = {"taken_packets": 600, "taken_bytes": 60_000, "sent_packets": 600, "sent_bytes": frame_bytes(600)}
+    for name in FLOWS:
+        tenant = gateway.tenant(name)
+        expect_equal({key: tenant[key] for key in wanted}, wanted, f"the counts of {name}")
+    gateway.end()
+    expect_billed(gateway, far, FLOWS)
+
+
 def many_rows(run):
     """Memory does not grow with the number of books: over the rows of years a gateway holds at most MOST_GROWTH more
     than over none, at its start and after rotations."""
@@ -753,6 +920,83 @@ def shares(run):
     worst = check_windows(list(far.samples), wanted, "four floods")
     rate = sum(far.samples[-1][1].values()) / far.seconds() / (700 + HEADER[SERVED])
     print(f"shares: {rate:.0f} frames/s, worst error {worst:.4f}")
+
+
+@judged_alone
+def shares_of_small(run):
+    """While tenants send packets of 20 bytes without a pause, their frames at the far end are in the ratio of their
+    tickets. There are four tenants, two of them of great numbers, and then 64 of small buffers."""
+    names = [f"s{number:02}" for number in range(1, 65)]
+    four = {name: Tenant([tickets], [f"flow = {flow}"])
+            for (name, tickets), flow in zip(FLOODED.items(), (1, 2, 65, 1024))}
+    sixty_four = {name: Tenant([1 + place % 4], ["packets = 4"]) for place, name in enumerate(names)}
+    for flows, tenants in (((1, 2, 65, 1024), four), (range(1, 65), sixty_four)):
+        check_small(run, tenants, flows)
+
+
+def check_small(run, tenants, flows):
+    """Wants that the frames of tenants with these flows are in the ratio of their tickets."""
+    far = SmallFrames(run, flows)
+    gateway = run.gateway(far, tenants)
+    run.thread(send_small, gateway)
+    tickets = {flow: tenant.grants[0][0] for flow, tenant in zip(flows, tenants.values())}
+    many = LEAST_SHARE * sum(tickets.values()) // min(tickets.values())
+    wait_for(lambda: all(far.counts.get(flow) for flow in flows), "a frame of each tenant")
+    count_small(far, many)
+    start, before = time.monotonic(), dict(far.counts)
+    count_small(far, many)
+    seconds, after = time.monotonic() - start, dict(far.counts)
+    came = {flow: after[flow] - before[flow] for flow in flows}
+    errors = {flow: came[flow] * sum(tickets.values()) / (sum(came.values()) * tickets[flow]) - 1 for flow in flows}
+    worst = max(map(abs, errors.values()))
+    print(f"shares of small packets: {sum(came.values()) / seconds:.0f} frames/s of {len(flows)} tenants, worst "
+          f"error {worst:.4f} of a share")
+    expect(worst <= MOST_ERROR_OF_SMALL, f"shares of small packets are off by {shortened(errors)}: {shortened(came)}")
+    gateway.close()
+
+
+def count_small(far, many):
+    """Waits until that many frames more came, and for a while at least."""
+    before = far.frames()
+    time.sleep(SMALL_WINDOW)
+    far.wait_for(before + many)
+
+
+class SmallFrames(FarEnd):
+    """A far end that counts frames of one length, by the last byte of their flow numbers. It is faster than one that
+    looks at each."""
+
+    def __init__(self, run, flows):
+        self.flows = flows
+        super().__init__()
+        run.far_ends.append(self)
+        run.stack.callback(self.close)
+
+    def take(self, data):
+        length = frame_bytes(1, SMALL)
+        end = len(data) - len(data) % length
+        if data[0:end:length].strip(bytes([MARK[0]])):
+            raise Failure("frames of another length")
+        lows = data[FLOW_AT:end:length]
+        for flow in self.flows:
+            self.counts[flow] = self.counts.get(flow, 0) + lows.count(flow % 256)
+        return data[end:]
+
+
+def send_small(gateway):
+    """Sends packets of each tenant by a connection of its own, as fast as they are taken, until the gateway ends."""
+    with contextlib.ExitStack() as stack, selectors.DefaultSelector() as selector, contextlib.suppress(OSError):
+        places = {}
+        for name in gateway.tenants:
+            connection = stack.enter_context(gateway.connect(name))
+            connection.setblocking(False)
+            places[name] = 0
+            selector.register(connection, selectors.EVENT_WRITE, name)
+        pieces = {name: memoryview(records(name, [0] * 1000, SMALL)) for name in places}
+        while True:
+            for key, _ in selector.select():
+                sent = key.fileobj.send(pieces[key.data][places[key.data]:])
+                places[key.data] = (places[key.data] + sent) % len(record(key.data, packet(0, SMALL)))
 
 
 @judged_alone
@@ -842,6 +1086,23 @@ def far_end_goes(run):
     expect(all(max(numbers) <= MOST_HELD for numbers in losses), f"a loss is more than a socket holds: {losses}")
     billed, came = sum(row[1] for row in gateway.counted().values()), frame_bytes(len(numbers), size)
     expect_equal(billed - came, missing, "what is billed and did not come")
+
+
+def two_losses(run):
+    """Two connections of the uplink are lost with bytes in their sockets: `status` has the sum of what both lines
+    say."""
+    port = free_port()
+    gateway = run.gateway(port, {"a": 1}, uplink_lines=[f"buffer = {SMALLEST_BUFFER}"])
+    run.flood(gateway, "a")
+    for number in (1, 2):
+        far = run.far_end(port, reads=False)
+        wait_for(lambda: gateway.status()["uplink"]["state"] == "up", "an uplink that is connected")
+        wait_for(lambda: is_unchanged(lambda: gateway.status()["uplink"]["sent"]), "an uplink that takes no more")
+        far.drop()
+        wait_for(lambda number=number: len(gateway.messages("lost")) == number, "a line about a loss")
+    losses = [max(message.numbers()) for message in gateway.messages("lost")]
+    expect(min(losses) > 0, f"a loss of nothing: {losses}")
+    expect_equal(gateway.status()["uplink"]["lost"], sum(losses), "the bytes that both losses took at most")
 
 
 def pace(gateway, ending, counts, size):
@@ -1387,11 +1648,12 @@ def slow_ones(run):
     run.side_by_side([(period,), (far_end_goes,), (far_end_does_not_answer,)], LIMIT)
 
 
-CASES = (checks, wrong_files, addresses_in_use, second_gateway, folder_without_leave, orders, status,
-         status_under_load, too_many_connections, too_many_controls, replies_not_read, asked, reloads, reload_refused,
-         reload_under_load, rotations, lives, whole, many_rows, rotations_without_a_pause, shares, rate,
-         one_against_eight, far_end_away, far_end_writes, far_end_reads_nothing, wrong_records, slow_bytes, sizes,
-         hung_up, resets, stopped_and_continued, unix_sockets, unix_modes_reloaded, until_eof, grace_is_over,
+CASES = (checks, wrong_files, addresses_in_use, second_gateway, folder_without_leave, orders, status, status_under_load,
+         too_many_connections, too_many_controls, replies_not_read, asked, reloads, tariffs_reloaded,
+         killed_after_tariffs, one_of_two_ports, reload_refused, reload_under_load, rotations, lives, whole,
+         much_is_carried, great_number, many_rows, rotations_without_a_pause, shares, shares_of_small, rate,
+         one_against_eight, two_losses, far_end_away, far_end_writes, far_end_reads_nothing, wrong_records, slow_bytes,
+         sizes, hung_up, resets, stopped_and_continued, unix_sockets, unix_modes_reloaded, until_eof, grace_is_over,
          held_at_the_end, end_is_sent, killed, killed_between_books, bad_books, disk_fills, disk_fails_at_the_end,
          slow_ones)
 

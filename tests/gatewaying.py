@@ -27,8 +27,9 @@ WORDS = os.environ.get("GATEWAY_WORDS", "gateway").split()
 # The names of the columns of books.csv.
 COLUMNS = "book,kind,opened,closed,why,tariffs,events,packets,bytes,units,amount,sha256"
 
-# The tariffs of a file that has none, as a row of books.csv has them.
+# The tariffs of a file that has none, as a row of books.csv has them, and the names of a tariff's numbers in a file.
 TARIFFS = "1/0/1 48/16/2 1024/0/1 2048/1024/3"
+TARIFF_KEYS = ("cell", "overhead", "price")
 
 # How many bytes of frames are scheduled and not sent at most.
 OUTBOX = 65536
@@ -302,11 +303,15 @@ class Message:
 
 class Gateway:
     """A gateway and its file. Tenants are given by name: a tenant, or the amount of its one grant of base. The flow of
-    a tenant is its place, unless its lines say another. `view` is where this program sees the folder of the books."""
+    a tenant is its place, unless its lines say another. Tariffs are given as a row of books.csv has them. `under` has
+    the tariffs of books, by the number of the first one that has them. `view` is where this program sees the folder of
+    the books."""
 
     def __init__(self, place, uplink, tenants, currencies=None, uplink_lines=(), books_lines=(), control=None,
-                 control_lines=(), folder=None):
+                 control_lines=(), folder=None, tariffs=None):
         self.place = place
+        self.tariffs = tariffs
+        self.under = {1: tariffs or TARIFFS}
         self.folder = folder or os.path.join(place, "books")
         self.view = self.folder
         if folder is None:
@@ -328,6 +333,8 @@ class Gateway:
         lines = []
         for name, section in self.sections.items():
             lines += [f"[{name}]", *section]
+        for tariff in (self.tariffs or "").split():
+            lines += ["[[tariff]]", *(f"{key} = {number}" for key, number in zip(TARIFF_KEYS, tariff.split("/")))]
         for name, grants in self.currencies.items():
             lines += ["[[currency]]", f'name = "{name}"', grants_text(grants)]
         for name, tenant in self.tenants.items():
@@ -460,9 +467,14 @@ class Gateway:
     def bill(self, names=None):
         """Packets, bytes, units and amount of each tenant, from its books or some of them."""
         files = [os.path.join(self.view, name) for name in (self.books() if names is None else names)]
-        text = subprocess.run([PROGRAM, "bill", "--csv", *files], check=True, capture_output=True, text=True,
+        rows = ["--books", os.path.join(self.view, "books.csv")] if self.is_billed_by_rows() else []
+        text = subprocess.run([PROGRAM, "bill", "--csv", *rows, *files], check=True, capture_output=True, text=True,
                               timeout=600).stdout
         return {row[0]: tuple(map(int, row[1:])) for row in csv.reader(text.splitlines()[1:])}
+
+    def is_billed_by_rows(self):
+        """Whether its books have tariffs of a file."""
+        return self.under != {1: TARIFFS}
 
     def counted(self):
         """Packets and bytes of each tenant, from its books."""
@@ -488,10 +500,13 @@ class Gateway:
 
     def check_books(self, may_skip=False):
         """Wants that each book is closed, and that its row says what its text comes to. A number may be skipped if a
-        book without a line was removed."""
+        book without a line was removed. A bill by rows is that of all books, and so is its check."""
         rows, names = self.check_texts(may_skip)
+        if self.is_billed_by_rows():
+            self.check_bill(rows, names)
         for row, name in zip(rows, names):
-            self.check_bill([row], [name])
+            if not self.is_billed_by_rows():
+                self.check_bill([row], [name])
             self.check_report(row, name)
 
     def check_texts(self, may_skip=False):
@@ -509,9 +524,13 @@ class Gateway:
             expect_equal(row["sha256"], hashlib.sha256(text).hexdigest(), f"the digest of {name}")
             expect_equal(int(row["events"]), text.count(b"\n") - 1, f"the events of {name}")
             expect_equal(row["kind"], "lengths" if name.endswith(".lengths") else "whole", f"the kind of {name}")
-            expect_equal(row["tariffs"], TARIFFS, f"the tariffs of {name}")
+            expect_equal(row["tariffs"], self.tariffs_of(int(row["book"])), f"the tariffs of {name}")
             expect(row["opened"] <= row["closed"], f"{name} was closed before it was opened")
         return rows, names
+
+    def tariffs_of(self, number):
+        """The tariffs of the book with this number."""
+        return self.under[max(first for first in self.under if first <= number)]
 
     def check_bill(self, rows, names):
         """Wants that rows have together what their texts come to."""

@@ -2,6 +2,7 @@
 ghost use Rattle.std.specs.Prelude.{◌≡◌, ◌+◌, ◌<◌, ◌≤◌, true, false};
 ghost use Rattle.share_doors.specs.Door.{counted, dropped_one, new_door, one_more};
 ghost use Rattle.share_doors.specs.Fills.{Drops, Fills};
+ghost use Rattle.share_doors.specs.Packets.{IsEmptied, IsEmpty};
 ghost use Rattle.share_doors.specs.Takes.{TakesOnly, can_take};
 ghost use Rattle.share_doors.specs.declared.door.Filled.TheVariants.{Full};
 
@@ -456,9 +457,10 @@ impl Door {
 
     // Drops what waits in the socket of a port.
     fn drop_waiting(&mut self, port: &mut PacketPort)
-        ensures { Drops self.old self.new }
+        ensures dropped { Drops self.old self.new }
+        ensures emptied { IsEmptied port.old port.new }
     {
-        'packets: for _ in 0..WAITING {
+        'packets: for turn in 0..WAITING {
             if !self.drop_packet(port) {
                 break;
             }
@@ -467,7 +469,9 @@ impl Door {
 
     // Drops the next packet of a port. Returns false if it has none.
     fn drop_packet(&mut self, port: &mut PacketPort) -> bool
-        ensures { Drops self.old self.new }
+        ensures dropped { Drops self.old self.new }
+        ensures more { result ≡ true → port.new.reads ≡ one_more port.old.reads }
+        ensures none { result ≡ false → IsEmpty port.new }
     {
         match port.discard(&mut self.reader) {
             Came::Packet(_) => unreachable!(),

@@ -1,9 +1,9 @@
 //! One socket or descriptor at which packets of a tenant come in, and go out.
-ghost use Rattle.std.specs.Prelude.{◌≡◌, true, length};
+ghost use Rattle.std.specs.Prelude.{◌≡◌, false, is_some, true, length};
 ghost use Rattle.std.specs.IoError.{error_kind};
 ghost use Rattle.share_base.specs.Body.{is_payload_length};
 ghost use Rattle.share_doors.specs.Door.{one_more};
-ghost use Rattle.share_doors.specs.Packets.{DropsOne, PortGives, PortTakes, ReadsOne, came_of};
+ghost use Rattle.share_doors.specs.Packets.{AsksOne, DropsOne, PortGives, PortTakes, ReadsOne, came_of};
 ghost use Rattle.share_doors.specs.Takes.{can_take};
 
 use crate::packet_reader::PacketReader;
@@ -47,6 +47,8 @@ pub struct PacketPort {
     end: Option<PortEnd>,
     // The number of packets that it was given.
     given: u64,
+    // The number of times that its socket was read.
+    reads: u64,
 }
 
 impl PacketPort {
@@ -59,6 +61,7 @@ impl PacketPort {
             is_readable: true,
             end: None,
             given: 0,
+            reads: 0,
         }
     }
 
@@ -69,7 +72,9 @@ impl PacketPort {
     }
 
     /// Whether nothing more comes of it.
-    pub(crate) fn is_over(&self) -> bool {
+    pub(crate) fn is_over(&self) -> bool
+        ensures { result ≡ is_some self.now.end }
+    {
         self.end.is_some()
     }
 
@@ -114,11 +119,13 @@ impl PacketPort {
 
     /// Reads its next packet, if one may be there. One that is no payload is dropped.
     pub(crate) fn receive(&mut self, reader: &mut PacketReader) -> Came
-        ensures { ReadsOne reader.old result reader.new }
+        ensures read { ReadsOne reader.old result reader.new }
+        ensures asked { AsksOne self.old result self.new }
     {
         if !self.is_readable {
             return Came::Nothing;
         }
+        self.reads = self.reads.saturating_add(1);
         match reader.receive(&self.socket) {
             Ok(Received::Packet(length, sender)) => {
                 self.note_sender(sender);
@@ -136,7 +143,8 @@ impl PacketPort {
 
     /// Reads its next packet, and drops it. Returns `Dropped` if it has one.
     pub(crate) fn discard(&mut self, reader: &mut PacketReader) -> Came
-        ensures { DropsOne reader.old result reader.new }
+        ensures dropped { DropsOne reader.old result reader.new }
+        ensures asked { AsksOne self.old result self.new }
     {
         match self.receive(reader) {
             Came::Packet(_) => Came::Dropped,
@@ -144,7 +152,9 @@ impl PacketPort {
         }
     }
 
-    fn note_sender(&mut self, sender: Option<SocketAddr>) {
+    fn note_sender(&mut self, sender: Option<SocketAddr>)
+        ensures { self.new.reads ≡ self.old.reads }
+    {
         if sender.is_some() {
             self.sender = sender;
         }
@@ -152,7 +162,8 @@ impl PacketPort {
 
     // Nothing more comes of it: its descriptor has ended.
     fn ended(&mut self) -> Came
-        ensures { result ≡ Came.Over ClosedWhy.Ended }
+        ensures came { result ≡ Came.Over ClosedWhy.Ended }
+        ensures end { is_some self.new.end ≡ true }
     {
         self.end = Some(PortEnd::Ended);
         Came::Over(ClosedWhy::Ended)
@@ -162,6 +173,7 @@ impl PacketPort {
     fn failed(&mut self, fault: io::Error) -> Came
         ensures came { result ≡ Came.Over (ClosedWhy.Failed (error_kind fault)) }
         ensures given { self.new.given ≡ self.old.given }
+        ensures end { is_some self.new.end ≡ true }
     {
         let kind = fault.kind();
         self.end = Some(PortEnd::Failed(fault));
@@ -174,9 +186,10 @@ impl PacketPort {
     }
 
     /// Gives a packet to its descriptor, to its last sender, or to the address that it is connected to. Returns whether
-    /// it was taken.
+    /// it was taken: a port that is over takes none.
     pub(crate) fn deliver(&mut self, payload: &[u8]) -> bool
-        ensures { self.new.given ≡ one_more self.old.given }
+        ensures given { self.new.given ≡ one_more self.old.given }
+        ensures over { is_some self.new.end ≡ true → result ≡ false }
     {
         self.given = self.given.saturating_add(1);
         if self.is_over() {

@@ -7,7 +7,7 @@ use super::assertions::{holds, same};
 use super::made::name;
 use super::session::plays;
 use super::stage::{NewLink, Slot, Stage, new_link, staged};
-use share_base::{Name, Parcel};
+use share_base::{FlowNo, Name, Parcel};
 use share_ingress::Offered;
 use share_locked::{LinkBrand, LinkEnd, Stop, run_paced_link};
 use share_model::Tape;
@@ -18,6 +18,9 @@ use std::sync::Wait;
 use std::thread;
 use std::thread::{Parker, Threads};
 use std::time::Duration;
+
+/// The runs of a test, each on a new link. `.ci/yields` makes more of them.
+const RUNS: u64 = 1;
 
 /// The number of workers, the packets that each offers, and the times that a flow is held meanwhile.
 const WORKERS: usize = 3;
@@ -30,12 +33,16 @@ const PLACES: usize = 256;
 
 const LIFE: u64 = 65536;
 
-/// The flows, one for each worker. Their buffers take 1, 2 and 1024 packets. The last one is held meanwhile.
+/// The flows, one for each worker. Their buffers take 1, 2 and 1024 packets. The last one is held meanwhile. Its buffer
+/// takes all packets of its worker: a link refuses those of a flow that is held and full, and a slow host sends few
+/// packets between two holds.
 static FLOWS: [&[u8]; WORKERS] = [b"a", b"b", b"c"];
 
 const OPENED: &str = "\
     C1 open a 1 1; C1 mktkt 1 base; C1 fund 1 flow a; C1 open b 2 1; C1 mktkt 1 base; C1 fund 2 flow b; \
     C1 open c 1024 1; C1 mktkt 1 base; C1 fund 3 flow c";
+
+const HELD_FLOW: FlowNo = FlowNo(3);
 
 const HELD: &str = "C1 hold c; pause 1; C1 resume c";
 
@@ -50,8 +57,9 @@ const LONE_PACKETS: u64 = 2000;
 
 const YIELDS: u64 = 40;
 
-/// The number of milliseconds that a run may take.
-const LIMIT: u64 = 40_000;
+/// The looks of a watch, a millisecond apart, after which it ends a run if none of them finds a new entry in the
+/// journal. A whole run may take as long as a slow host makes it.
+const LOOKS: u64 = 20_000;
 
 /// The values that the threads of a run share.
 #[derive(Drop)]
@@ -59,7 +67,7 @@ struct Shared<L: LinkBrand> {
     stage: Stage<Tape, L>,
     stop: Stop,
     is_done: Stop,
-    is_late: Stop,
+    is_stuck: Stop,
 }
 
 // The flow that a worker fills.
@@ -102,19 +110,40 @@ fn offers<T: Abort + Wait, L: LinkBrand>(
     pace.begin_waiting(worker);
 }
 
-// Lets everybody go on if the run takes too long.
+// Waits until the run is done, or ends it if nothing more is done in it.
 fn watches<T: Wait, L: LinkBrand>(rt: &T, shared: &Shared<L>) {
     let parker = Parker::new();
-    for _ in 0..LIMIT {
+    let mut known = 0;
+    let mut looks: u64 = 0;
+    for _ in rt.forever() {
         if shared.is_done.is_set() {
             return;
         }
+        let found = entries(rt, shared);
+        looks = if found == known {
+            looks.saturating_add(1)
+        } else {
+            0
+        };
+        known = found;
+        if looks >= LOOKS {
+            return ends(shared);
+        }
         parker.park_timeout(rt, Duration::from_millis(1));
     }
-    shared.is_late.set();
+}
+
+// Lets everybody go on, since the run is stuck.
+fn ends<L: LinkBrand>(shared: &Shared<L>) {
+    shared.is_stuck.set();
     shared.stop.set();
     shared.stage.pace.end();
     shared.stage.pace.ring();
+}
+
+// The number of entries in the journal.
+fn entries<T: Wait, L: LinkBrand>(rt: &T, shared: &Shared<L>) -> u64 {
+    shared.stage.port.lock(rt).recorder().journal().len()
 }
 
 // The number of packets sent.
@@ -154,14 +183,26 @@ fn offers_alone<T: Abort + Wait, L: LinkBrand>(
     }
 }
 
-// Waits until that many packets were sent, or the run takes too long.
+// Waits until that many packets were sent, or the run is stuck.
 fn while_unsent<T: Wait, L: LinkBrand>(rt: &T, shared: &Shared<L>, wanted: u64) {
     for _ in rt.forever() {
-        if written(rt, shared) >= wanted || shared.is_late.is_set() {
+        if written(rt, shared) >= wanted || shared.is_stuck.is_set() {
             return;
         }
         thread::yield_now();
     }
+}
+
+// The buffer of the flow that is held takes all packets of its worker.
+fn takes_all<T: Abort + Wait, L: LinkBrand>(rt: &T, shared: &Shared<L>) {
+    let locked = shared.stage.port.lock(rt);
+    let backlog = locked
+        .recorder()
+        .engine()
+        .backlog(HELD_FLOW)
+        .expect(rt, "a flow");
+    let limit = u64::from(backlog.limit);
+    holds(rt, ("a held flow takes all", limit), limit >= PACKETS);
 }
 
 // The duties of the workers of a run.
@@ -178,6 +219,7 @@ where
     L: LinkBrand + Send,
 {
     plays(rt, alloc, &shared.stage, &[OPENED]);
+    takes_all(rt, shared);
     thread::scope(thread::scope_env(), rt, |workers| {
         for (at, slot) in shared.stage.ends.iter().enumerate() {
             let number = at as u64 + 1;
@@ -231,10 +273,10 @@ where
         stage: staged(rt, alloc, new, 1),
         stop: Stop::new(),
         is_done: Stop::new(),
-        is_late: Stop::new(),
+        is_stuck: Stop::new(),
     };
     let end = runs(rt, alloc, &shared, load);
-    holds(rt, "nobody sleeps for ever", !shared.is_late.is_set());
+    holds(rt, "nobody sleeps for ever", !shared.is_stuck.is_set());
     same(rt, "how the link ended", end, LinkEnd::Drained);
     holds(rt, "the link has ended", shared.stage.has_ended.is_set());
     let totals = shared.stage.port.lock(rt).recorder().engine().totals();
@@ -255,10 +297,14 @@ fn passes<T: Abort + Threads + Wait + Sync>(rt: &T, alloc: Global, load: Load) {
 
 #[test]
 fn packets_of_busy_workers_are_sent(rt: HostRuntime) {
-    passes(&rt, rt.alloc(), Load::Together);
+    for _ in 0..RUNS {
+        passes(&rt, rt.alloc(), Load::Together);
+    }
 }
 
 #[test]
 fn lone_packets_are_sent(rt: HostRuntime) {
-    passes(&rt, rt.alloc(), Load::Alone);
+    for _ in 0..RUNS {
+        passes(&rt, rt.alloc(), Load::Alone);
+    }
 }

@@ -15,7 +15,8 @@ SOURCES := crates.txt $(shell find crates -name '*.rt' -o -name '*.antt' | grep 
 PREFIX ?= /usr/local
 
 TOOL_PACKAGES := mandoc man-db tshark gnuplot-nox python3 python3-prometheus-client postgresql systemd bash-completion \
-    binutils dpkg-dev lintian zstd socat iproute2 iperf3 iputils-ping nftables procps chromium prometheus curl
+    binutils dpkg-dev lintian zstd socat iproute2 iperf3 iputils-ping nftables procps chromium prometheus curl strace \
+    systemd-container dbus
 
 help:
 	@echo 'make try         runs an example, with nothing proved'
@@ -77,7 +78,9 @@ acceptance:
 	tests/bill.py
 	tests/fuzz.py
 	tests/gateway.py
+	tests/signals.py
 	tests/datagrams.py
+	tests/sockets.py
 	tests/downlink.py
 	tests/ask.py
 	tests/web.py
@@ -135,6 +138,7 @@ soak: build gateway
 	python3 bench/shares.py
 	python3 bench/gateway_shares.py
 	python3 bench/gateway_soak.py
+	python3 bench/dead_paths.py
 	tests/hostile_gateway.py
 	python3 bench/tunnel.py
 
@@ -168,6 +172,7 @@ tools-test:
 	tools/tests/page.py
 	tools/tests/scrape.py
 	tools/tests/unit.py
+	tools/tests/container.py
 	tools/tests/links.py
 	tools/tests/statement.py
 	tools/tests/tun.py

@@ -14,7 +14,7 @@ OF_TYPE = re.compile(r"impl(?:<.*>)? (\w+)")
 @dataclass(frozen=True)
 class Function:
     """A function: its lines from its attributes to its end, and the numbers of those where it begins, is declared,
-    opens its body and ends. The block is the line that begins the block around it."""
+    opens its body and ends. The block is what begins the block around it (`begun_at`)."""
     name: str
     block: str
     is_constant: bool
@@ -51,7 +51,7 @@ def functions_of(text):
     """The functions of a source that have a body, in their order. One inside another is a part of it."""
     lines, found, block, at = text.split("\n"), [], "", 0
     while at < len(lines):
-        block = lines[at] if lines[at][:1].strip() else block
+        block = begun_at(lines, at) if lines[at][:1].strip() else block
         match = FUNCTION.match(lines[at])
         opening = opening_of(lines, at, match[1]) if match else None
         if opening is None:
@@ -66,15 +66,24 @@ def functions_of(text):
     return found
 
 
+def begun_at(lines, at):
+    """The line that begins a block, with the one after it if the type of a trait stands there."""
+    return lines[at] + (lines[at + 1] if lines[at + 1:] and lines[at + 1].startswith("    for ") else "")
+
+
 def opening_of(lines, declared, indent):
-    """The line that opens the body of a function, or nothing if it has no body."""
+    """The line that opens the body of a function, or nothing if it has no body. The lines of its clauses are deeper than
+    the function, so a semicolon at the end of one does not end it."""
     for at in range(declared, len(lines)):
         line = lines[at]
-        if line == indent + "{" or line.endswith("{") and (at == declared or line.startswith(indent + ")")):
+        if line == indent + "{":
             return at
-        if at == declared and line.endswith("}"):
-            return at
-        if line.endswith(";"):
+        if at == declared or line.startswith((indent + ")", indent + ">")):
+            if line.endswith("{") or at == declared and line.endswith("}"):
+                return at
+            if line.endswith(";"):
+                return None
+        elif line and not line.startswith(indent + " ") and line != indent + "where":
             return None
     return None
 

@@ -196,7 +196,8 @@ def outputs(_folder):
     """Output that is full or closed is a fault, and the status stands even if standard error is full."""
     with open("/dev/full", "wb") as full:
         peer = Peer()
-        want("a full output", ask(peer.address(), "x", stdout=full), (1, None, b"stridelink: cannot write the output\n"))
+        want("a full output", ask(peer.address(), "x", stdout=full),
+             (1, None, b"stridelink: cannot write the output\n"))
         peer.end()
         peer = Peer()
         want("full outputs", ask(peer.address(), "x", stdout=full, stderr=full), (1, None, None))
@@ -212,8 +213,9 @@ def words(_folder):
     """Wrong words have status 2, whatever standard error is, and nothing is sent."""
     for given in ([], ["ask"], ["ask", "127.0.0.1:7002"], ["ask", "localhost:7002", "x"], ["ask", "127.0.0.1", "x"],
                   ["ask", "127.0.0.1:0", "x"], ["ask", "::1:7002", "x"], ["ask", "unix:", "x"], ["ask", "", "x"],
-                  ["ask", "udp:127.0.0.1:7002", "x"], ["ask", "127.0.0.1:7002", "a\nb"], ["ask", "127.0.0.1:7002", "\n"],
-                  ["ask", "127.0.0.1:7002", "x", "--y"], ["asks", "127.0.0.1:7002", "x"],
+                  ["ask", "udp:127.0.0.1:7002", "x"], ["ask", "127.0.0.1:7002", "a\nb"],
+                  ["ask", "127.0.0.1:7002", "\n"], ["ask", "127.0.0.1:7002", "x", "--y"],
+                  ["asks", "127.0.0.1:7002", "x"],
                   ["gateway"], ["gateway", "a", "b"], ["gateway", ""], ["gateway", "a", "--grace"],
                   ["gateway", "a", "--grace", "86401"], ["gateway", "a", "--grace", "-1"],
                   ["gateway", "a", "--grace", "1", "--grace", "1"], ["gateway", "a", "--quiet", "--quiet"]):

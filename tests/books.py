@@ -40,6 +40,8 @@ NO_TARIFFS = "its book has no row, and no file of tariffs is beside it"
 NAME = "its name is not that of a book's text, as 000001.lengths"
 TWICE = "its book is given twice"
 BAD = "the row of its book says bad"
+NO_BOOK = "the row of its book says none"
+NO_ROW_TARIFFS = "the row of its book has no tariffs"
 FIGURES = (("sha256", "its sha256 is not that of its row"), ("units", "its units are not those of its row"),
            ("amount", "its amount is not that of its row"))
 
@@ -98,7 +100,7 @@ def are_tariffs(word):
 
 READS = dict.fromkeys(NAMES, is_number) | {
     "kind": lambda word: word in ("whole", "lengths"), "opened": is_time, "closed": is_time, "tariffs": are_tariffs,
-    "why": lambda word: word in ("spent", "period", "reload", "rotate", "end", "cut", "bad"),
+    "why": lambda word: word in ("spent", "period", "reload", "rotate", "end", "cut", "bad", "none"),
     "sha256": lambda word: re.fullmatch("[0-9a-f]{64}", word) is not None}
 
 
@@ -143,28 +145,33 @@ def given_numbers(rows_path, rows, paths):
     """The numbers of the books of these paths. Raises Wrong with the first fault."""
     numbers = [number_in(path) for path in paths]
     bad = {int(row["book"]) for row in rows if row["why"] == "bad"}
+    none = {int(row["book"]) for row in rows if row["why"] == "none"}
     for place, number in enumerate(numbers):
         if number in numbers[:place]:
             raise Wrong(paths[place], TWICE)
         if number in bad:
             raise Wrong(paths[place], BAD)
+        if number in none:
+            raise Wrong(paths[place], NO_BOOK)
     wanted = range(int(rows[0]["book"]), int(rows[-1]["book"]) + 1) if rows else ()
     for number in wanted:
-        if number not in numbers and number not in bad:
+        if number not in numbers and number not in bad | none:
             raise Wrong(rows_path, "book %d is not given" % number)
     return numbers
 
 
-def tariffs_beside(path, number):
-    """The tariffs of a book without a row. Raises Wrong if there are none."""
+def tariffs_beside(path, number, lacking=NO_TARIFFS):
+    """The tariffs in the file beside the text of a book. Raises Wrong if there are none."""
     try:
         with open(os.path.join(os.path.dirname(path), "%06d.tariffs" % number), encoding="latin-1", newline="") as file:
             text = file.read()
     except FileNotFoundError:
-        raise Wrong(NO_TARIFFS) from None
-    if not text.endswith("\n") or text == "\n" or not are_tariffs(text[:-1]):
+        raise Wrong(lacking) from None
+    tariffs, feed, opened = text.partition("\n")
+    is_opened = opened == "" or opened[-1] == "\n" and is_time(opened[:-1])
+    if not tariffs or not feed or not are_tariffs(tariffs) or not is_opened:
         raise Wrong("the file of its tariffs has no tariffs")
-    return text[:-1]
+    return tariffs
 
 
 def checked(rows, path, number):
@@ -173,13 +180,66 @@ def checked(rows, path, number):
     row = next((row for row in rows if int(row["book"]) == number), None)
     tariffs = row["tariffs"] if row else tariffs_beside(path, number)
     if not tariffs:
-        raise Wrong("the row of its book has no tariffs")
+        raise Wrong(NO_ROW_TARIFFS)
     with open(path, "rb") as file:
         flows, cut, figures = run(file.read(), tariffs)
     for name, reason in FIGURES:
         if row and row[name] != figures[name]:
             raise Wrong(reason)
     return flows, cut
+
+
+def beginning(text, tariffs):
+    """The flows of the longest beginning of a text that is a run, and what is said of its end, after the path. Raises
+    Wrong with the number of a line and the reason if no beginning is one."""
+    try:
+        flows, cut, _ = run(text, tariffs)
+        return flows, ":%d: %s\n" % (cut, CUT) if cut else ""
+    except Wrong as wrong:
+        number, reason = wrong.args
+        if number == 1:
+            raise
+        flows, _, _ = run(b"".join(line + b"\n" for line in text.split(b"\n")[:number - 1]), tariffs)
+        return flows, ":%d: %s; lines billed: %d\n" % (number, reason, number - 1)
+
+
+def repaired_by(tariffs_of, paths, form, said=""):
+    """The model's result for the longest beginnings of texts, each under its own tariffs."""
+    books, status = [], 0
+    for path in paths:
+        try:
+            tariffs = tariffs_of(path)
+            with open(path, "rb") as file:
+                flows, end = beginning(file.read(), tariffs)
+            books.append(flows)
+            said += path + end if end else ""
+        except Wrong as wrong:
+            said += said_of(path, wrong)
+            status = 1
+    return status, "" if status else FORMS[form][1](bill_of(books), len(books)), said
+
+
+def repaired(rows_path, paths, form):
+    """The model's result for the longest beginnings of texts, under the tariffs of their rows or of the files beside
+    them."""
+    with open(rows_path, encoding="latin-1", newline="") as file:
+        rows, _ = rows_in(file.read())
+
+    def tariffs_of(path):
+        number = number_in(path)
+        row = next((row for row in rows if int(row["book"]) == number), None)
+        if row is None:
+            return tariffs_beside(path, number)
+        return row["tariffs"] or tariffs_beside(path, number, NO_ROW_TARIFFS)
+
+    return repaired_by(tariffs_of, paths, form, bad_lines(rows_path, rows, [number_in(path) for path in paths]))
+
+
+def bad_lines(rows_path, rows, billed=()):
+    """What is said of the rows whose text is no run. These books are billed as far as their texts are runs."""
+    return "".join("%s: book %s is bad, and %s\n" % (rows_path, row["book"], "its beginning is billed"
+                                                    if int(row["book"]) in billed else "has no bill")
+                   for row in rows if row["why"] == "bad")
 
 
 def said_of(path, wrong):
@@ -196,8 +256,7 @@ def wanted_of(rows_path, paths, form):
     except Wrong as wrong:
         return 1, "", said_of(rows_path, wrong)
     said = "%s:%d: %s\n" % (rows_path, cut, CUT) if cut else ""
-    said += "".join("%s: book %s is bad, and has no bill\n" % (rows_path, row["book"])
-                    for row in rows if row["why"] == "bad")
+    said += bad_lines(rows_path, rows)
     try:
         numbers = given_numbers(rows_path, rows, paths)
     except Wrong as wrong:
@@ -285,11 +344,11 @@ class Folder:
     books: list = field(default_factory=list)
 
     def add(self, kind, tariffs, text, why="period", number=None):
-        """A closed book with its row. A book whose text is no run has no file here."""
+        """A closed book with its row. A book whose text is no run has no file here, and a number without a book none at
+        all."""
         number = len(self.rows) + 1 if number is None else number
-        if why == "bad":
+        if why in ("bad", "none"):
             figures = dict.fromkeys(("events", "packets", "bytes", "units", "amount"), "0") | {"sha256": "a" * 64}
-            tariffs = ""
         else:
             figures = run(text, tariffs)[2]
             self.write("%06d.%s" % (number, "audit" if kind == "whole" else "lengths"), text)
@@ -480,6 +539,65 @@ def bad(folder):
     expect_equal(compare(rows, first.books, "bad rows around"), (0, said), "bad rows around")
 
 
+def none(folder):
+    """A number without a book: no file of it is wanted, nothing is said of it, and none may be given."""
+    books = usual(folder, "none").add("lengths", "", b"", "none").add("lengths", OWN, LENGTHS)
+    rows = books.save()
+    for form in FORMS:
+        expect_billed(compare(rows, books.books, "a number without a book", form), "", "a number without a book")
+    books.write("000004.lengths", LENGTHS)
+    expect_equal(compare(rows, books.books, "a book without one"), (1, "%s: %s\n" % (books.books[-1], NO_BOOK)),
+                 "a book of a number without one")
+    only = made(folder, "only").add("lengths", "", b"", "none").add("lengths", "", b"", "none")
+    only.open(3, OWN + "\n", LENGTHS)
+    expect_billed(compare(only.save(), only.books, "no other row"), "", "no other row")
+
+
+# Lines of which each is put before each line of a text, or at its end.
+ODD = (b"turn 18", b"hold", b"torn", b"send c 1", b"x" * 20481)
+
+
+def repairs(folder):
+    """The longest beginning of a text that is a run is billed, and its end is named."""
+    books = made(folder, "repairs")
+    for number, (text, kind) in enumerate(((LENGTHS, "lengths"), (WHOLE, "whole")), 1):
+        books.add(kind, OWN if number == 1 else "", b"", "bad")
+        with open(books.beside("%06d.tariffs" % number), "w", encoding="ascii") as file:
+            file.write("1/0/7 48/16/2\n")
+        path, lines = books.beside("%06d.bad" % number), text.split(b"\n")
+        texts = [b"\n".join(lines[:place] + [odd] + lines[place:]) for place in range(len(lines)) for odd in ODD]
+        texts += [text[:end] for end in range(0, len(text), 5)] + [text]
+        rows = books.save()
+        for place, each in enumerate(texts):
+            with open(path, "wb") as file:
+                file.write(each)
+            form = list(FORMS)[place % 3]
+            expect_equal(run_bill(*FORMS[form][0], "--repair", "--books", rows, path), repaired(rows, [path], form),
+                         "the beginning of text %d of book %d" % (place, number))
+    repair_sources(books, rows)
+
+
+def repair_sources(books, rows):
+    """Beginnings are billed under the tariffs of a row, of a file beside the text, of a plan, or of no file. They are
+    summed, and one without a first line spoils the bill."""
+    bad = [books.beside("000001.bad"), books.beside("000002.bad")]
+    for path, text in zip(bad, (LENGTHS + b"turn 18\nhold a\n", WHOLE + b"torn\n")):
+        with open(path, "wb") as file:
+            file.write(text)
+    for form, (option, _) in FORMS.items():
+        expect_equal(run_bill(*option, "--repair", "--books", rows, *bad), repaired(rows, bad, form), "two beginnings")
+        expect_equal(run_bill(*option, "--repair", *bad), repaired_by(lambda _: STANDARD, bad, form), "no plan")
+        plan = write_plan(books.path, PLAN_FILE % "[[tariff]]\ncell = 7\noverhead = 3\nprice = 5\n")
+        expect_equal(run_bill(*option, "--repair", "--plan", plan, *bad), repaired_by(lambda _: "7/3/5", bad, form),
+                     "a plan")
+    expect_equal(run_bill("--csv", *bad)[:2], (1, ""), "texts that are no runs, without --repair")
+    os.remove(books.beside("000002.tariffs"))
+    expect_equal(run_bill("--repair", "--books", rows, *bad), repaired(rows, bad, "table"), "no tariffs")
+    with open(bad[0], "wb") as file:
+        file.write(b"length 2\n")
+    expect_equal(run_bill("--repair", *bad), repaired_by(lambda _: STANDARD, bad, "table"), "no first line")
+
+
 def open_books(folder):
     """The open book has no row: the file beside it has its tariffs."""
     books = usual(folder, "open").open(4, OWN + "\n", LENGTHS + b"send a 9")
@@ -489,7 +607,12 @@ def open_books(folder):
             text, LENGTHS.count(b"\n") + 1, CUT), "an open book")
     expect_equal(run_bill("--csv", "--books", "books.csv", *map(os.path.basename, books.books), folder=books.path)[:2],
                  wanted_of(rows, books.books, "csv")[:2], "an open book without a folder")
-    for beside in ("", "\n", OWN, OWN + " \n", "0/0/1\n", OWN + "\n\n", OWN + "\r\n", "\xff\n"):
+    for beside in (OWN + "\n", OWN + "\n" + TIME + "\n"):
+        with open(books.beside("000004.tariffs"), "w", encoding="ascii") as file:
+            file.write(beside)
+        expect_equal([compare(rows, books.books, "tariffs %r" % beside)[0]], [0], beside)
+    for beside in ("", "\n", OWN, OWN + " \n", "0/0/1\n", OWN + "\n\n", OWN + "\r\n", "\xff\n", OWN + "\n" + TIME,
+                   OWN + "\n" + TIME + "\n\n", TIME + "\n"):
         with open(books.beside("000004.tariffs"), "wb") as file:
             file.write(beside.encode("latin-1"))
         expect_said(compare(rows, books.books, "tariffs %r" % beside), "the file of its tariffs has no tariffs", beside)
@@ -503,6 +626,21 @@ def open_books(folder):
     alone = made(folder, "alone").open(1, STANDARD + "\n", WHOLE)
     for text in ("", HEADER + "\n", HEADER):
         compare(alone.save_text(text), alone.books, "no row, with %r" % text)
+
+
+def closed_without_row(folder):
+    """A closed text without its row has its tariffs in the file beside it. One without either is refused by name."""
+    books = usual(folder, "closed")
+    books.add("lengths", OWN, LENGTHS).add("whole", "1/0/3 48/16/2", WHOLE)
+    books.rows = books.rows[:3]
+    rows = books.save()
+    for number, tariffs in ((4, OWN), (5, "1/0/3 48/16/2")):
+        said = "%s: %s\n" % (books.books[number - 1], NO_TARIFFS)
+        status, found = compare(rows, books.books[:number], "book %d without a row" % number)
+        expect_equal((status, found), (1, said), "book %d without a row" % number)
+        with open(books.beside("%06d.tariffs" % number), "w", encoding="ascii") as file:
+            file.write("%s\n%s\n" % (tariffs, TIME))
+        expect_billed(compare(rows, books.books[:number], "a file of tariffs"), "", "a file of tariffs")
 
 
 def names(folder):
@@ -610,7 +748,8 @@ def plans(folder):
     expect_equal((status, printed), (1, ""), "no file of a plan")
 
 
-CASES = (good, missing, altered_texts, altered_rows, wrong_lines, bad, open_books, names, words, plans)
+CASES = (good, missing, altered_texts, altered_rows, wrong_lines, bad, none, repairs, open_books, closed_without_row,
+         names, words, plans)
 
 
 def main():

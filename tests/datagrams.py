@@ -297,7 +297,7 @@ def no_ports(run):
         for port, given, reason in (("udp:%s:%d" % taken.getsockname(), [], "in use"),
                                     (f"fd:{NO_DESCRIPTOR}", [], "ad file descriptor"),
                                     (f"fd:{file.fileno()}", [file.fileno()], "not permitted")):
-            gateway = run.prepared(1, {"a": Tenant([1], ports=[port])})
+            gateway = run.prepared(1, {"a": Tenant([1], ports=[port])}, uplink_lines=["buffer = 262144"])
             try:
                 gateway.start(pass_fds=given)
             except Failure:

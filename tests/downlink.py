@@ -16,7 +16,8 @@ import time
 
 sys.dont_write_bytecode = True
 
-from gatewaying import FILLING, NUMBER, Play, Tenant, address_of, connect, frame_bytes, free_port, packet, records
+from gatewaying import (FILLING, NUMBER, Play, Tenant, address_of, connect, frame_bytes, free_port, packet, records,
+                        run_gateway)
 from measured import judged_alone
 from serving import (LOOPBACK, PATIENCE, Failure, ends_by_itself, expect, expect_equal, frame, frames, try_cases,
                      wait_for)
@@ -244,6 +245,47 @@ def tunnel(run):
     near.end()
     far.end()
     expect_equal((near.counted()["a"][0], far.counted()["a"][0]), (50, 100), "packets of the bills")
+
+
+def table_deleted(run):
+    """A table is deleted at the near end of a tunnel, which is started again or reads its file again: the packets of
+    the tenants that are left come out at these alone."""
+    far = far_gateway(run, {"acme": 1, "bond": 1, "cone": 1})
+    near = near_gateway(run, far, {"acme": 1, "bond": 1, "cone": 1})
+    got = receivers(run, far, ("acme", "bond", "cone"))
+    for name, received in got.items():
+        send_slowly(near, received, name, 20)
+    del near.tenants["acme"]
+    near.write()
+    near.control.expect("reload", "book 2")
+    send_slowly(near, got["cone"], "cone", 40)
+    near.control.expect("end", "ok")
+    near.wait()
+    near.start()
+    wait_for(lambda: near.status()["uplink"]["state"] == "up", "an uplink that is connected")
+    expect_equal(near.flows(), {"bond": 2, "cone": 3}, "the numbers of the near end")
+    with near.connect("cone") as connection:
+        connection.sendall(records("cone", range(40, 60)))
+        got["cone"].wait_for(80)
+    expect_equal([(name, received.fault, len(received.numbers)) for name, received in got.items()],
+                 [("acme", None, 20), ("bond", None, 20), ("cone", None, 80)], "packets that came")
+    expect_equal(counts_of(far)[2], 0, "strangers")
+    near.end()
+    far.end()
+
+
+def flow_is_needed(run):
+    """A file with a downlink says the number of each tenant: the first table without one is named."""
+    far = run.prepared(1, {"acme": 1, "bond": 1}, uplink_lines=["buffer = 262144"])
+    good = far.text() + f'[downlink]\nlisten = "{address_of(free_port())}"\n'
+    for tables, wanted in ((("acme",), 2), (("bond",), 1), ((), 1), (("acme", "bond"), None)):
+        text = good
+        for flow, name in enumerate(tables, 5):
+            text = text.replace(f'name = "{name}"', f'name = "{name}"\nflow = {flow}')
+        far.write(text)
+        fault = f"{far.file}: tenant {wanted}: flow: missing, and a file with [downlink] needs it\n"
+        expect_equal(run_gateway(["--check", far.file]), (1, "", fault) if wanted else
+                     (0, f"{far.file}: ok\n", ""), f"a file with the numbers of {tables}")
 
 
 def shares(run, kind):
@@ -668,9 +710,10 @@ def idle(run):
     far.end()
 
 
-CASES = (pair_over_tcp, pair_over_udp, tunnel, shares_over_tcp, shares_over_udp, far_end_comes_back, frames_in_pieces,
-         forged_frames, version_one, cut_frames, strangers, replaced, many_wait, from_one_address, one_reads_nothing,
-         packet_ports, failed_descriptor, great_numbers, datagrams, uplink_of_datagrams, nothing_is_taken, idle)
+CASES = (pair_over_tcp, pair_over_udp, tunnel, table_deleted, flow_is_needed, shares_over_tcp, shares_over_udp,
+         far_end_comes_back, frames_in_pieces, forged_frames, version_one, cut_frames, strangers, replaced, many_wait,
+         from_one_address, one_reads_nothing, packet_ports, failed_descriptor, great_numbers, datagrams,
+         uplink_of_datagrams, nothing_is_taken, idle)
 
 
 def main():

@@ -98,6 +98,28 @@ for words in '' run; do
         }
     done
 done
+
+# Help lists the commands of all programs. Each has its own help, which 'help' prints too, and its version.
+listed=$(stridelink -h | sed -n '/^Commands:/,/^$/s/^  \([a-z]*\)  .*/\1/p' | tr '\n' ' ')
+[[ $listed == 'gateway ask bill run serve help ' ]] || {
+    echo "'-h' lists $listed" >&2
+    failed=1
+}
+for word in gateway ask bill run serve; do
+    [[ $(stridelink --help) == *$'\n'"  $word "* && $(stridelink "$word" -h) == *"Usage: stridelink $word"* ]] || {
+        echo "'$word' is not in the help, or has no help of its own" >&2
+        failed=1
+    }
+    wants 0 "$(stridelink "$word" --help)"$'\n' '' "stridelink help $word"
+    wants 0 "stridelink-$word 0.1.0"$'\n' '' "stridelink $word --version"
+done
+for words in walk 'help walk' 'gateway --walk' 'help gateway walk'; do
+    stridelink $words > "$folder/output" 2> "$folder/said"
+    [[ $? -eq 2 && ! -s $folder/output && $(< "$folder/said") == error:* ]] || {
+        echo "'$words': no fault of words, or another status" >&2
+        failed=1
+    }
+done
 stridelink run --help | sed -n '/^An example/,/^Its answers/{/^  /p}' | sed 's/^  //; s/  .*//' > "$folder/script"
 stridelink run --help | sed -n '/^Its answers/,/^Lines of/{/^  /p}' | sed 's/^  //' > "$folder/answers"
 diff "$folder/script" $script && diff "$folder/answers" examples/one-packet.output || failed=1

@@ -54,8 +54,8 @@ pairs() {
 
 shows 'stridelink 0.1.0' 'stridelink --version'
 shows 'stridelink 0.1.0' 'stridelink -V'
-shows 'a link that shares its bandwidth among packet flows by tickets' 'stridelink --help'
-shows 'a link that shares its bandwidth among packet flows by tickets' 'stridelink help'
+shows 'shares the bandwidth of a link by tickets' 'stridelink --help'
+shows 'shares the bandwidth of a link by tickets' 'stridelink help'
 shows 'runs a script' 'stridelink run --help'
 
 refuses "'stridelink' requires a subcommand but one was not provided" ''

@@ -11,6 +11,8 @@ import calendar
 import contextlib
 import itertools
 import os
+import re
+import resource
 import selectors
 import shutil
 import signal
@@ -31,8 +33,8 @@ from gatewaying import (COLUMNS, GATEWAY, HEADER, MARK, MOST_CONNECTIONS, MOST_C
                         FarEnd, Play, Tenant, address_of, connect, frame_bytes, free_port, packet, records, run_gateway,
                         run_program)
 from measured import WINDOW, Flood, check_windows, judged_alone
-from serving import (LOOPBACK, PATIENCE, TOP, Failure, ends_by_itself, expect, expect_equal, record, reset, shortened,
-                     try_cases, wait_for)
+from serving import (LOOPBACK, NO_DESCRIPTOR, PATIENCE, TOP, Failure, address_space, ends_by_itself, expect,
+                     expect_equal, limit_of_free, lower, record, reset, shortened, try_cases, wait_for)
 
 # Seconds for a case, and for all of them.
 LIMIT = 240
@@ -49,9 +51,11 @@ NOTHING_SENT = 2
 # Within how many seconds control replies while the far end reads nothing, and by how much memory may grow meanwhile.
 PROMPT = 0.1
 MOST_GROWTH = 1 << 20
+FEW_ROWS = 10
+MOST_READ = 16384
 
 # How many rows books.csv has after years, and after how many rotations memory is compared.
-MANY_ROWS = 20_000
+MANY_ROWS = 100_000
 FEW_ROTATIONS = 5
 
 # The longest frame. A turn is made only if the outbox has room for it.
@@ -77,6 +81,13 @@ MOST_HELD = 2 * SMALLEST_BUFFER + 65536
 
 # The life of a short book.
 SHORTEST_LIFE = 131072
+
+# How many bytes of addresses a gateway may take beyond those that it has at first, how many control connections come
+# once they are taken, and the lines that say so: the kind of each, and a part of its reason.
+ROOM_LEFT = 16 << 20
+CONTROLS_IN_FULL = 50
+MEMORY_LINES = [("closed", "out of memory: a packet is lost"), ("memory", "packets were dropped: out of memory"),
+                ("memory", "a connection was closed at once: out of memory")]
 
 # The tariffs of three files. The tenants of the first have its two.
 FIRST_TARIFFS = "1/0/2 64/8/3"
@@ -130,8 +141,10 @@ def checks(run):
     made."""
     gateway = run.prepared(1, {"a": 1})
     file = gateway.file
-    expect_equal(run_gateway([file, "--check"]), (0, f"{file}: ok\n", ""), "a check")
-    expect_equal(run_gateway(["--check", file]), (0, f"{file}: ok\n", ""), "a check")
+    for words in ([file, "--check"], ["--check", file]):
+        status, out, errors = run_gateway(words)
+        expect_equal((status, out), (0, f"{file}: ok\n"), "a check")
+        expect(errors.startswith(f"{file}: warning: ") and errors.count("\n") == 1, f"a check: {errors}")
     for words in ([], ["--check"], [file, "--grace"], [file, "--check", "x"]):
         expect_equal(run_gateway(words)[0], 2, f"words {words}")
     good = gateway.text()
@@ -218,7 +231,7 @@ def folder_without_leave(run):
     place = run.folder()
     os.chmod(place, 0o755)
     program = shutil.copy(GATEWAY, place)
-    gateway = run.prepared(1, {"a": 1}, place)
+    gateway = run.prepared(1, {"a": 1}, place, uplink_lines=["buffer = 262144"])
     os.chmod(gateway.folder, 0o755 if is_root else 0o555)
     how = {"user": NOBODY, "group": NOBODY, "extra_groups": []} if is_root else {}
     for folder, reason in ((gateway.folder, "ermission denied"), (place + "/nowhere", "o such file")):
@@ -426,7 +439,9 @@ def too_many_controls(run):
     ends_by_itself(controls[1].socket)
     for control in [*controls[2:], controls[0]]:
         control.expect("resume a", "no 22 NotHeld")
-    expect_equal(len(gateway.messages("control")), 1, "lines about control connections")
+    expect_equal([(message.tenant, message.why) for message in gateway.messages("closed")],
+                 [("-", "a control connection beyond 16: the one that was silent for longest")],
+                 "lines about control connections")
     gateway.end()
 
 
@@ -482,6 +497,167 @@ def asked(run):
         expect_equal(run_program(["ask", *words])[0], 2, f"ask {words}")
     expect_equal(run_program(["ask", gateway.address, "end"])[:2], (0, "ok\n"), "ask end")
     gateway.wait()
+
+
+# ---- Messages
+
+
+def messages(run):
+    """Each thing that happens is a line on standard error, and nothing else is one: the start, each book with its
+    packets and its amount, each connection of a tenant, each control line that changes something with its reply, each
+    reload, and the end."""
+    for kind in ("tcp", "unix"):
+        far = run.far_end()
+        place = run.folder()
+        address = f"unix:{place}/control" if kind == "unix" else None
+        ports = [f"unix:{place}/a"] if kind == "unix" else None
+        gateway = run.prepared(far, {"a": Tenant([300], ports=ports), "b": 100}, place, control=address).start()
+        wait_for(lambda: gateway.messages("connected"), "an uplink")
+        client = run.keep(gateway.connect("a"))
+        client.sendall(records("a", range(10)))
+        far.wait_for(10)
+        sender = ports[0] if ports else address_of(client.getsockname()[1])
+        client.close()
+        wait_for(lambda: len(gateway.messages("client")) == 2, "a line about a client that is gone")
+        came_from = address or address_of(gateway.control.socket.getsockname()[1])
+        wanted = [("started", f"version {gateway.status()['version']}, {gateway.file}, 2 tenants"),
+                  ("connected", f"to {address_of(far.port)}"), ("client", f"{sender}: connected"),
+                  ("client", f"{sender}: closed by the client, 10 packets")]
+        for line, reply in [("hold a", "ok"), ("hold a", "no 21 Held"), ("hold c", "no 7 NoFlow"), ("resume a", "ok"),
+                            ("amend b 1 5", "ok"), ("amend b 2 5", "no 6 NoTicket"), ("nonsense", "no 3 Syntax")]:
+            gateway.control.expect(line, reply)
+            wanted.append(("control", f"{came_from}: {line}: {reply}"))
+        wanted.pop()
+        gateway.control.report()
+        gateway.control.expect("rotate", "book 2")
+        wanted += [("control", f"{came_from}: rotate: book 2"), ("book", closed_book(1, "rotate", 10))]
+        wait_for(lambda: gateway.messages("book"), "a line about a book")
+        wanted += reloaded(gateway, came_from)
+        gateway.control.expect("end", "ok")
+        gateway.wait()
+        wanted += [("control", f"{came_from}: end: ok"), ("book", "book 3 is the last: end, 0 packets, amount 0"),
+                   ("ended", "the last book is closed, 0 packets and 0 bytes of frames are left")]
+        expect_equal([(message.what, message.tenant, message.why) for message in gateway.messages()],
+                     [(what, "a" if what == "client" else "-", why) for what, why in wanted],
+                     f"what a gateway prints, over {kind}")
+        expect(all(abs(seconds_of(message.time) - time.time()) < LIMIT for message in gateway.messages()), "a time")
+
+
+def closed_book(number, why, packets):
+    """The line about a book that was closed, in which so many packets were sent, and that another one follows."""
+    return f"book {number + 1} follows book {number}: {why}, {packets} packets, amount {frame_bytes(packets)}"
+
+
+def reloaded(gateway, came_from):
+    """Reads a file again that is refused, and one that is good: the messages of both."""
+    good = gateway.text()
+    gateway.write(good.replace('name = "b"', 'name = "a"'))
+    refused = gateway.control.ask("reload")
+    expect(refused.startswith(f"no {gateway.file}: "), f"the reply to reload is {refused}")
+    gateway.write(good)
+    gateway.control.expect("reload", "book 3")
+    wait_for(lambda: len(gateway.messages("book")) == 2, "a line about a book")
+    return [("reload", f"refused: {refused.removeprefix('no ')}"), ("control", f"{came_from}: reload: {refused}"),
+            ("reload", f"{gateway.file}: book 3"), ("control", f"{came_from}: reload: book 3"),
+            ("book", closed_book(2, "reload", 0))]
+
+
+def many_lines(run):
+    """At most ten lines about control lines are printed in a second, and the others are counted."""
+    gateway = run.gateway(run.far_end(), {"a": 1})
+    count = 500
+    gateway.control.expect_all(["hold a", "resume a"] * (count // 2), "ok")
+    gateway.end()
+    lines = [message for message in gateway.messages("control") if not message.why.startswith("lines left out")]
+    told = sum(message.numbers()[-1] for message in gateway.messages("control") if message not in lines)
+    expect_equal(len(lines) + told, count + 1, "lines that are printed or counted")
+    for _, each in itertools.groupby(lines, lambda message: message.time):
+        expect(len(list(each)) <= 10, "more than ten lines of a kind in a second")
+
+
+# ---- Memory and descriptors
+
+
+def few_descriptors(run):
+    """Connections for which there are no descriptors wait, and that is reported. They are accepted once there are some
+    again."""
+    far = run.far_end()
+    gateway = run.gateway(far, {"a": 1})
+    gateway.send("a", [0])
+    far.wait_for(1)
+    wait_for(lambda: gateway.tenant("a")["connections"] == 0, "a connection that is over")
+    most = 4
+    lower(gateway, resource.RLIMIT_NOFILE, limit_of_free(gateway, most))
+    connections = [run.keep(gateway.connect("a")) for _ in range(2 * most)]
+    for number, connection in enumerate(connections):
+        connection.sendall(record("a", packet(1 + number)))
+    far.wait_for(1 + most)
+    wait_for(lambda: gateway.messages("memory"), "a line about descriptors")
+    expect_equal({(message.tenant, message.why) for message in gateway.messages("memory")},
+                 {("-", NO_DESCRIPTOR)}, "lines about descriptors")
+    for connection in connections[:most]:
+        connection.close()
+    far.wait_for(1 + 2 * most)
+    for connection in connections[most:]:
+        connection.close()
+    wait_for(lambda: gateway.tenant("a")["connections"] == 0, "connections that are over")
+    gateway.end()
+
+
+def memory_is_full(run):
+    """If packets of tenants have taken all memory, connections and datagrams that find none are reported. A new control
+    connection is taken and answered as ever."""
+    far = run.far_end()
+    flooded = {f"t{number}": Tenant([1], ["held = true", "packets = 1024"]) for number in range(16)}
+    port = free_port()
+    flooded["u"] = Tenant([1], ["held = true", "packets = 1024"], ports=[f"udp:{address_of(port)}"])
+    gateway = run.gateway(far, flooded, ["--grace", "1"])
+    expect_equal(len(gateway.status()["tenants"]), len(flooded), "tenants")
+    gateway.control.close()
+    size = address_space(gateway.process)
+    lower(gateway, resource.RLIMIT_AS, size + ROOM_LEFT)
+    over = threading.Event()
+    run.stack.callback(over.set)
+    for name in flooded:
+        run.thread(flood_datagrams if name == "u" else flood_again, gateway, name, over)
+    wait_for(lambda: says(gateway, *MEMORY_LINES[0]), "a packet without memory")
+    for name in ("t0", "t1", "t2", "t3"):
+        for _ in range(MOST_CONNECTIONS - 4):
+            run.keep(gateway.connect(name))
+    for what, why in MEMORY_LINES:
+        wait_for(lambda what=what, why=why: says(gateway, what, why), f"{what}: {why}")
+    for number in range(CONTROLS_IN_FULL):
+        control = run.keep(gateway.new_control())
+        expect(control.ask("status").startswith('{"version":'), f"status, time {number}")
+        control.expect("hold t0", "no 21 Held")
+        control.close()
+    control = run.keep(gateway.new_control())
+    control.expect("end", "ok")
+    over.set()
+    lower(gateway, resource.RLIMIT_AS, size + (1 << 30))
+    gateway.wait(1)
+    gateway.check_books()
+
+
+def says(gateway, what, why):
+    """Whether a message of a kind has this text in its reason."""
+    return any(why in message.why for message in gateway.messages(what))
+
+
+def flood_again(gateway, name, over):
+    """Floods by one connection after another."""
+    while not over.is_set():
+        with contextlib.suppress(OSError):
+            gateway.flood(name, 9000)
+
+
+def flood_datagrams(gateway, name, over):
+    """Floods a datagram socket."""
+    port = int(gateway.tenants[name].ports[0].rsplit(":", 1)[1])
+    with socket.socket(socket.AF_INET, socket.SOCK_DGRAM) as sender:
+        while not over.is_set():
+            with contextlib.suppress(OSError):
+                sender.sendto(packet(0, 9000), (LOOPBACK, port))
 
 
 # ---- Reload
@@ -563,9 +739,13 @@ def no_reloads(gateway):
     yield good.replace("[uplink]", "[uplink]\nbuffer = 65536"), ": [uplink] needs a restart"
     yield good.replace("[books]", '[books]\nperiod = "1 h"'), ": [books] needs a restart"
     yield good.replace("[control]", '[control]\nmode = "0660"'), ": [control] needs a restart"
-    yield good + '[downlink]\nlisten = "127.0.0.1:1"\n', ": [downlink]"
-    yield good.replace(d, '[[tenant]]\nname = "e"\nflow = 3\n' + d), ": flow 3 is c's"
-    yield good.replace("flow = 4", "flow = 5"), ": "
+    downlink = '[downlink]\nlisten = "127.0.0.1:1"\n'
+    numbered = good.replace('name = "a"\n', 'name = "a"\nflow = 1\n').replace('name = "b"\n', 'name = "b"\nflow = 2\n')
+    yield numbered + downlink, ": [downlink] needs a restart"
+    yield good + downlink, ": tenant 1: flow: missing, and a file with [downlink] needs it"
+    yield good.replace(d, '[[tenant]]\nname = "e"\nflow = 3\n' + d), ": tenant 3: flow: 3 is c's since 20"
+    yield good.replace("flow = 4", "flow = 5"), ": tenant 3: flow: d's own number is 4 since 20"
+    yield good.replace("flow = 4", "flow = 2"), ": tenant 3: flow: d's own number is 4 since 20"
     yield good.replace('amount = 2, of = "base"', 'amount = 2, of = "x"'), ": grant 2 of currency 1: no 15 Cycle"
     yield good.replace("amount = 1,", "amount = 0,"), ": "
     yield good.replace("[books]", "[books"), ":"
@@ -628,7 +808,7 @@ def sums_of_book(gateway, far, number):
     far.wait_for(before + sum(map(len, sizes.values())))
     tariffs = gateway.tariffs_of(number)
     with open(os.path.join(gateway.folder, f"{number:06}.tariffs"), encoding="ascii") as file:
-        expect_equal(file.read(), tariffs + "\n", f"the tariffs of the open book {number}")
+        expect_equal(file.readline(), tariffs + "\n", f"the tariffs of the open book {number}")
     return {name: priced(tariff, sizes[name]) for name, tariff in zip(sizes, tariffs.split())}
 
 
@@ -703,6 +883,159 @@ def reload_refused(run):
         expect_equal([tenant[key] for tenant in after], [tenant[key] for tenant in before], f"{key} of the tenants")
     gateway.write()
     gateway.control.expect("reload", "book 3")
+    gateway.end()
+
+
+def names_of_a_refused_reload(run):
+    """A refused reload leaves neither names nor rows nor ports: the good one after it gives another name the number
+    that the refused file had given, and the port too."""
+    far = run.far_end()
+    gateway = run.gateway(far, {"a": 1})
+    busy = run.keep(socket.create_server((LOOPBACK, 0)))
+    expect_equal(gateway.flows(), {"a": 1}, "the numbers of the first file")
+    rows = gateway.numbers()
+    expect_equal(rows, [(1, "a", True)], "the rows of the first file")
+    gateway.tenants["x"] = Tenant([1])
+    gateway.tenants["y"] = Tenant([1], ports=[address_of(busy.getsockname()[1])])
+    gateway.write()
+    for _ in range(3):
+        reply = gateway.control.ask("reload")
+        expect(reply.startswith("no ") and "in use" in reply.lower(), f"the reply to reload is {reply}")
+        expect_equal((gateway.numbers(), gateway.flows()), (rows, {"a": 1}), "the numbers after a refused reload")
+        expect_refused(gateway.tenants["x"].ports[0])
+    port = gateway.tenants.pop("x").ports
+    del gateway.tenants["y"]
+    gateway.tenants = {"z": Tenant([1], ports=port), **gateway.tenants}
+    gateway.write()
+    gateway.control.expect("reload", "book 2")
+    expect_equal((gateway.numbers(), gateway.flows()), ([(1, "a", True), (2, "z", True)], {"a": 1, "z": 2}), "numbers")
+    gateway.send("z", range(20))
+    gateway.send("a", range(20))
+    far.wait_for(40)
+    for flow in (1, 2):
+        far.expect_in_order(flow, 20)
+    gateway.end()
+
+
+# The tenants of one file after another, in the order of their tables, and the number that each has. A name that comes
+# without a `flow` has the least number that no name had.
+FILES = [
+    ("abc", {"a": 1, "b": 2, "c": 3}),
+    ("cab", {"a": 1, "b": 2, "c": 3}),
+    ("cb", {"b": 2, "c": 3}),
+    ("dbc", {"b": 2, "c": 3, "d": 4}),
+    ("ca", {"a": 1, "c": 3}),
+    ("ead", {"a": 1, "d": 4, "e": 5}),
+]
+
+
+def tables_come_and_go(run):
+    """Tables are removed, added, and put into another order, by reloads and by restarts: each tenant's frames have the
+    number of its name."""
+    far = run.far_end()
+    for by_restart in (False, True):
+        tenants = {name: Tenant([1]) for name in "abcde"}
+        gateway = run.prepared(far, {name: tenants[name] for name in FILES[0][0]})
+        gateway.start()
+        for names, flows in FILES:
+            gateway.tenants = {name: tenants[name] for name in names}
+            gateway.write()
+            if by_restart:
+                gateway.control.expect("end", "ok")
+                gateway.wait()
+                gateway.start()
+            else:
+                expect(gateway.control.ask("reload").startswith("book "), f"a reload with the tenants {names}")
+            expect_equal(gateway.flows(), flows, f"the numbers of {names}")
+            expect_numbers_on_the_wire(gateway, far, flows)
+        expect_equal(gateway.numbers(), [(1, "a", True), (2, "b", False), (3, "c", False), (4, "d", True),
+                                         (5, "e", True)], "the rows of flows.csv")
+        gateway.end()
+
+
+def expect_numbers_on_the_wire(gateway, far, flows):
+    """Each tenant's packets come in frames of its number, and in no others."""
+    for name, flow in flows.items():
+        before = dict(far.counts)
+        gateway.send(name, range(10))
+        wait_for(lambda before=before: far.frames() == sum(before.values()) + 10, "frames")
+        came = {flow: count - before.get(flow, 0) for flow, count in far.counts.items() if count != before.get(flow, 0)}
+        expect_equal(came, {flow: 10}, f"the frames of {name}")
+
+
+def great_numbers(run):
+    """Tenants with numbers above 64 are served, counted, and filled up as others are."""
+    far = run.far_end()
+    flows = {"a": 1024, "b": 65, "c": 1, "d": 700}
+    gateway = run.gateway(far, {name: Tenant([1], [f"flow = {flow}"]) for name, flow in flows.items()})
+    expect_equal(list(gateway.flows().items()), [("c", 1), ("b", 65), ("d", 700), ("a", 1024)], "the order of tenants")
+    for name in flows:
+        gateway.send(name, range(600))
+    far.wait_for(600 * len(flows))
+    for name, flow in flows.items():
+        far.expect_in_order(flow, 600)
+        expect_equal((gateway.tenant(name)["taken_packets"], gateway.tenant(name)["sent_packets"]), (600, 600), name)
+    gateway.end()
+    expect_billed(gateway, far, flows)
+
+
+# Bytes of flows.csv of which no gateway makes sense, and the line that is wrong.
+WRONG_NUMBERS = [
+    ("", 1),
+    ("flow,name,since,until", 1),
+    ("flow,name,since,until\n1,a,2026-11-30T10:00:00Z,", 2),
+    ("flow,name,since,until\n1,a,2026-11-30T10:00:00Z,\n1,b,2026-11-30T10:00:00Z,\n", 3),
+    ("flow,name,since,until\n1,a,2026-11-30T10:00:00Z,\n2,a,2026-11-30T10:00:00Z,\n", 3),
+]
+
+
+def numbers_of_a_folder(run):
+    """A start and a check go by the numbers of the folder. Numbers that cannot be read refuse the start, and stay."""
+    far = run.far_end()
+    gateway = run.prepared(far, {"a": 1, "b": 1})
+    rows = os.path.join(gateway.folder, "flows.csv")
+    for text, line in WRONG_NUMBERS:
+        with open(rows, "w", encoding="ascii") as file:
+            file.write(text)
+        for words in ([gateway.file], ["--check", gateway.file]):
+            expect_equal(run_gateway(words)[::2], (1, f"{gateway.folder}: flows.csv:{line}: not a row of its own\n"),
+                         f"a start with {text!r}")
+        with open(rows, encoding="ascii") as file:
+            expect_equal(file.read(), text, "the numbers after a refused start")
+    with open(rows, "w", encoding="ascii") as file:
+        file.write("flow,name,since,until\n7,b,2026-11-30T10:00:00Z,2026-12-01T00:00:00Z\n1,z,2026-11-30T10:00:00Z,\n")
+    gateway.tenants["a"].lines = ["flow = 7"]
+    gateway.write()
+    fault = f"{gateway.file}: tenant 1: flow: 7 is b's since 2026-11-30T10:00:00Z (flows.csv)\n"
+    for words in ([gateway.file], ["--check", gateway.file]):
+        expect_equal(run_gateway(words)[::2], (1, fault), f"words {words}")
+    gateway.tenants["a"].lines = []
+    gateway.write()
+    expect_equal(run_gateway(["--check", gateway.file])[0], 0, "a check")
+    gateway.start()
+    expect_equal(gateway.flows(), {"a": 2, "b": 7}, "the numbers")
+    expect_numbers_on_the_wire(gateway, far, {"a": 2, "b": 7})
+    expect_equal(gateway.numbers(), [(7, "b", True), (1, "z", False), (2, "a", True)], "the rows of flows.csv")
+    gateway.end()
+
+
+def forgotten_names(run):
+    """`--forget` gives the number of a name free that is no tenant of the file, while no gateway runs on the folder."""
+    far = run.far_end()
+    gateway = run.gateway(far, {"a": 1, "b": 1, "c": 1})
+    expect(run_gateway(["--forget", "b", gateway.file])[2].startswith(gateway.folder + ": another gateway"), "a lock")
+    gateway.end()
+    gone = gateway.tenants.pop("b")
+    gateway.write()
+    for name, wanted in (("a", "a is a tenant of the file"), ("x", "x has no number in flows.csv"),
+                         ("X", "X has no number in flows.csv")):
+        expect_equal(run_gateway(["--forget", name, gateway.file]), (1, "", f"stridelink: {wanted}\n"), name)
+    expect_equal(run_gateway(["--forget", "b", gateway.file]), (0, "b: forgotten\n", ""), "a name that is gone")
+    expect_equal(gateway.numbers(), [(1, "a", True), (3, "c", True)], "the rows of flows.csv")
+    gateway.tenants = {"d": Tenant([1]), **gateway.tenants, "b": gone}
+    gateway.write()
+    gateway.start()
+    expect_equal(gateway.flows(), {"a": 1, "c": 3, "d": 2, "b": 4}, "the numbers")
     gateway.end()
 
 
@@ -853,29 +1186,49 @@ def great_number(run):
 
 
 def many_rows(run):
-    """Memory does not grow with the number of books: over the rows of years a gateway holds at most MOST_GROWTH more
-    than over none, at its start and after rotations."""
-    few, many = (memory_over_rows(run, count) for count in (0, MANY_ROWS))
+    """Neither memory nor reading grows with the number of books: over the rows of years a gateway holds at most
+    MOST_GROWTH more than over a few, and reads at most MOST_READ more, at its start and for rotations."""
+    few, many = (costs_over_rows(run, count) for count in (FEW_ROWS, MANY_ROWS))
     for less, more, when in zip(few, many, ("at the start", "after rotations")):
-        expect(more - less <= MOST_GROWTH, f"{when} a gateway holds {less} bytes, and {more} over {MANY_ROWS} rows")
+        print(f"many_rows: {when} {less[1]} bytes are read over {FEW_ROWS} rows, and {more[1]} over {MANY_ROWS}; "
+              f"{1000 * less[2]:.1f} and {1000 * more[2]:.1f} ms")
+        expect(more[0] - less[0] <= MOST_GROWTH,
+               f"{when} a gateway holds {less[0]} bytes, and {more[0]} over {MANY_ROWS} rows")
+        expect(more[1] - less[1] <= MOST_READ,
+               f"{when} a gateway reads {less[1]} bytes, and {more[1]} over {MANY_ROWS} rows")
 
 
-def memory_over_rows(run, count):
-    """How much memory a gateway holds at its start, and after rotations, over that many rows of closed books."""
+def costs_over_rows(run, count):
+    """What a gateway costs over that many rows of closed books, at its start and after rotations: how much memory it
+    holds, how many bytes it has read, and in how many seconds."""
     gateway = run.prepared(run.far_end(), {"a": 1})
     rows = [f"{number},lengths,2026-01-01T00:00:00Z,2026-01-01T01:00:00Z,period,{TARIFFS},131072,65536,40000000,"
             f"50000000,50000000,{'a' * 64}" for number in range(1, count + 1)]
     with open(os.path.join(gateway.folder, "books.csv"), "w", encoding="ascii") as file:
         file.write("".join(line + "\n" for line in [COLUMNS, *rows]))
-    gateway.start()
-    held = [gateway.resident()]
+    costs = []
+
+    def note(seconds):
+        costs.append((gateway.resident(), bytes_read(gateway.process), seconds))
+
+    note(seconds_taken(gateway.start))
+    note(seconds_taken(lambda: rotate_some(gateway, count)))
+    gateway.control.expect("end", "ok")
+    gateway.wait()
+    return costs
+
+
+def rotate_some(gateway, count):
+    """Rotates, and waits for each row: so many rows were there before."""
     for number in range(count + 1, count + 1 + FEW_ROTATIONS):
         gateway.control.expect("rotate", f"book {number + 1}")
         wait_for(lambda: gateway.closed_books() >= number, "the row of a book")
-    held.append(gateway.resident())
-    gateway.control.expect("end", "ok")
-    gateway.wait()
-    return held
+
+
+def bytes_read(process):
+    """How many bytes a program has read by calls of the system."""
+    with open(f"/proc/{process.pid}/io", encoding="ascii") as source:
+        return next(int(line.split()[1]) for line in source if line.startswith("rchar"))
 
 
 def rotations_without_a_pause(run):
@@ -1120,7 +1473,7 @@ def pace(gateway, ending, counts, size):
 
 
 def far_end_does_not_answer(run):
-    """A dial that has no answer is given up after five seconds, reported, and made again. Packets wait meanwhile, and
+    """A dial that has no answer is given up after its timeout, reported, and made again. Packets wait meanwhile, and
     none is lost."""
     listener = run.keep(socket.create_server((LOOPBACK, 0), backlog=0))
     port = listener.getsockname()[1]
@@ -1130,7 +1483,7 @@ def far_end_does_not_answer(run):
         crowd[-1].setblocking(False)
         crowd[-1].connect_ex((LOOPBACK, port))
     start = time.monotonic()
-    gateway = run.gateway(port, {"a": 1})
+    gateway = run.gateway(port, {"a": 1}, uplink_lines=['timeout = "5 s"'])
     plain = run.beside("sleep", "5")
     sender = run.thread(gateway.send, "a", range(500))
     wait_for(lambda: gateway.messages("unreachable"), "a line about a dial without an answer")
@@ -1420,8 +1773,11 @@ def grace_is_over(run):
     expect_equal(waiting, {"a": 256, "b": 256, "c": 0}, "packets that wait")
     ends_after_a_second(run, gateway)
     left = {message.tenant: message.numbers()[0] for message in gateway.messages("left")}
-    expect(0 < left.pop("-", 0) <= OUTBOX, f"bytes of the outbox are left, and are not reported: {left}")
+    outbox = left.pop("-", 0)
+    expect(0 < outbox <= OUTBOX, f"bytes of the outbox are left, and are not reported: {left}")
     expect_equal(left, {"a": 256, "b": 256}, "packets that are left")
+    expect_equal([message.why for message in gateway.messages("ended")],
+                 [f"the last book is closed, 512 packets and {outbox} bytes of frames are left"], "the last line")
     gateway.check_books()
     expect_equal(gateway.whys(), ["end"], "why the book was closed")
 
@@ -1530,12 +1886,12 @@ def rotate_often(gateway):
 
 
 def bad_books(run):
-    """An open book that is no run is renamed at the start, reported, and has a row with zeros. One without a whole
-    first line is removed, and its number is used."""
+    """An open book that is no run is renamed at the start, whole, reported, and has a row with zeros. One without a
+    whole first line is removed, and its number has a row without a book."""
     far = run.far_end()
     gateway = run.prepared(far, {"a": 1})
-    for number, text in ((1, "lengths 2\nturn 18\n"), (2, "lengths")):
-        for kind, content in (("open", text), ("tariffs", "1/0/1 48/16/2 1024/0/1 2048/1024/3\n")):
+    for number, text in ((1, "lengths 2\nturn 18\nturn"), (2, "lengths")):
+        for kind, content in (("open", text), ("tariffs", TARIFFS + "\n2026-01-31T22:00:00Z\n")):
             with open(os.path.join(gateway.folder, f"{number:06}.{kind}"), "w", encoding="ascii") as file:
                 file.write(content)
     gateway.start()
@@ -1544,12 +1900,344 @@ def bad_books(run):
     gateway.control.expect("end", "ok")
     gateway.wait()
     rows = gateway.rows()
-    expect_equal([(int(row["book"]), row["why"]) for row in rows], [(1, "bad"), (3, "end")], "the rows")
-    expect_equal([rows[0][key] for key in ("events", "packets", "bytes", "units", "amount")], ["0"] * 5, "a bad row")
-    expect("000001.bad" in os.listdir(gateway.folder), "the bad book is not there")
-    expect(gateway.messages("bad") or gateway.messages("recovered"), "a bad book is not reported")
-    expect_equal(sorted(os.listdir(gateway.folder)), ["000001.bad", "000003.lengths", "000003.report", "books.csv"],
-                 "the files of the folder")
+    expect_equal([(int(row["book"]), row["why"]) for row in rows], [(1, "bad"), (2, "none"), (3, "end")], "the rows")
+    for row in rows[:2]:
+        figures = [row[key] for key in ("events", "packets", "bytes", "units", "amount")]
+        expect_equal(figures, ["0"] * 5, "a row of zeros")
+        expect_equal(row["opened"], "2026-01-31T22:00:00Z", "the opening time")
+    with open(os.path.join(gateway.folder, "000001.bad"), encoding="ascii") as text:
+        expect_equal(text.read(), "lengths 2\nturn 18\nturn", "the bad book")
+    expect(gateway.messages("bad") and gateway.messages("recovered"), "a bad book is not reported")
+    expect_equal(sorted(os.listdir(gateway.folder)),
+                 ["000001.bad", "000001.tariffs", "000002.tariffs", "000003.lengths", "000003.report",
+                  "000003.tariffs", "books.csv", "flows.csv"], "the files of the folder")
+
+
+def rows_put_back(run):
+    """An older books.csv that is put back from a backup gets the rows of later books again, with their own figures. A
+    text whose tariffs are gone too stays as it is, and each start reports it."""
+    far = run.far_end()
+    gateway = run.gateway(far, {"a": 1})
+    rows_of = os.path.join(gateway.folder, "books.csv")
+    for number in range(1, 5):
+        gateway.send("a", range(10 * number))
+        far.wait_for(5 * number * (number + 1))
+        if number < 4:
+            gateway.control.expect("rotate", f"book {number + 1}")
+    gateway.end()
+    whole = gateway.rows()
+    with open(rows_of, encoding="ascii") as file:
+        lines = file.readlines()
+    with open(rows_of, "w", encoding="ascii") as file:
+        file.writelines(lines[:2])
+    gateway.start()
+    gateway.end()
+    rows = gateway.rows()
+    expect_equal([row["why"] for row in rows], ["rotate", "cut", "cut", "cut", "end"], "the reasons")
+    for before, row in zip(whole, rows):
+        for key in ("book", "kind", "tariffs", "events", "packets", "bytes", "units", "amount", "sha256"):
+            expect_equal(row[key], before[key], f"{key} of book {before['book']}")
+        expect(abs(seconds_of(row["opened"]) - seconds_of(before["opened"])) <= 1,
+               f"when it was opened: {row['opened']}")
+    with open(rows_of, "w", encoding="ascii") as file:
+        file.writelines(lines[:4])
+    os.remove(os.path.join(gateway.folder, "000004.tariffs"))
+    for why in ("no file and no row has its tariffs", "it has no row and a later book has one"):
+        gateway.start()
+        expect_equal([message.why for message in gateway.messages("bad")],
+                     [f"book 4: left as it is, since {why}"], "a text without tariffs")
+        gateway.control.expect("end", "ok")
+        gateway.wait()
+    expect("000004.lengths" in os.listdir(gateway.folder), "the text without tariffs is not there")
+    expect_equal([int(row["book"]) for row in gateway.rows()], [1, 2, 3, 5, 6, 7], "the rows")
+
+
+def times_of_files(run):
+    """A start is not refused for the time of a file: a row has the nearest time that it can have, and no book is closed
+    before it was opened."""
+    text = "lengths 2\n"
+    for changed, opened, closed in ((-86400, "2026-01-31T22:00:00Z", "2026-01-31T22:00:00Z"),
+                                    (1769903999, "2026-01-31T22:00:00Z", "2026-01-31T23:59:59Z"),
+                                    (-86400, None, "1969-12-31T00:00:00Z"),
+                                    (7258118400, None, "2200-01-01T00:00:00Z")):
+        far = run.far_end()
+        gateway = run.prepared(far, {"a": 1})
+        for kind, content in (("open", text), ("tariffs", TARIFFS + "\n" + (opened + "\n" if opened else ""))):
+            path = os.path.join(gateway.folder, f"000001.{kind}")
+            with open(path, "w", encoding="ascii") as file:
+                file.write(content)
+            os.utime(path, (changed, changed))
+        gateway.start()
+        gateway.end()
+        row = gateway.rows()[0]
+        expect_equal((row["opened"], row["closed"], row["why"]), (opened or closed, closed, "cut"),
+                     f"changed at {changed}")
+
+
+# ---- Syncs
+
+# The calls of the system that are seen under strace.
+SEEN = "openat,write,pwrite64,fsync,fdatasync,rename,unlink"
+
+# How often books are rotated while a sync fails: so often that the thread which closes books makes as many syncs before
+# its last books as a start. How many syncs it makes for one book, how many there may be in all, how many runs there are
+# at once, and the kinds of files of which a sync fails.
+FEW_BOOKS = 3
+SYNCS_OF_A_BOOK = 9
+MOST_SYNCS = 60
+AT_ONCE = 4
+SYNCED = {"folder", "open", "part", "rows", "tariffs"}
+
+
+def syncs_in_order(run):
+    """A close and each kind of recovery make bytes durable before a name or a row rests on them, in the order of their
+    steps."""
+    if not shutil.which("strace"):
+        print("syncs_in_order: skipped, since there is no strace here (Debian's package strace)")
+        return
+    far = run.far_end()
+    row = "write rows, again rows, sync rows, sync folder"
+    closing = ("sync 1.open, rename 1.open 1.lengths, sync folder, write 1.part, sync 1.part, rename 1.part 1.report, "
+               "sync folder, " + row)
+    gateway, calls = traced(run, far, {})
+    expect_equal(", ".join(calls[:calls.index("make 1.open") + 2]),
+                 "write flows.new, sync flows.new, rename flows.new flows.csv, sync folder, make 1.tariffs, "
+                 "write 1.tariffs, sync 1.tariffs, sync folder, make 1.open, sync folder",
+                 "the numbers, and the beginning of a book")
+    expect_steps(calls, max(at for at, call in enumerate(calls) if call == "write 1.open"), closing, "a close")
+    tariffs = {"000001.tariffs": TARIFFS + "\n2026-01-31T22:00:00Z\n"}
+    expect_steps(traced(run, far, {"000001.open": "lengths 2\n", **tariffs})[1], -1, closing, "a recovery")
+    expect_steps(traced(run, far, {"000001.open": "lengths", **tariffs})[1], -1, row + ", remove 1.open, sync folder",
+                 "a number without a book")
+    expect_steps(traced(run, far, {"000001.open": "turn 18\n", **tariffs})[1], -1,
+                 "sync 1.open, rename 1.open 1.bad, sync folder, " + row, "a bad book")
+    names = ("000001.lengths", "000001.report", "000001.tariffs", "books.csv")
+    found = {name: read_text(gateway, name) for name in names}
+    expect_steps(traced(run, far, found)[1], -1, "sync 1.lengths, again rows, sync rows, sync folder",
+                 "a closed book that is found")
+
+
+def read_text(gateway, name):
+    with open(os.path.join(gateway.folder, name), encoding="ascii") as file:
+        return file.read()
+
+
+def traced(run, far, files):
+    """A gateway that began over these files and ended, and its calls on the files of its folder, in the order in which
+    they returned."""
+    gateway, prefix, seen = under_strace(run, far, files)
+    gateway.start(prefix=prefix)
+    gateway.control.expect("end", "ok")
+    gateway.wait()
+    return gateway, calls_in(seen, os.path.realpath(gateway.folder))
+
+
+def under_strace(run, far, files, *words):
+    """A gateway over these files that has not begun, what runs it under strace with further words, and the file of the
+    calls that are seen."""
+    gateway, seen = run.prepared(far, {"a": 1}), os.path.join(run.folder(), "calls")
+    for name, text in files.items():
+        with open(os.path.join(gateway.folder, name), "w", encoding="ascii") as file:
+            file.write(text)
+    return gateway, ["strace", "-f", "-y", "-qq", "-e", "signal=none", "-e", f"trace={SEEN}", *words, "-o", seen], seen
+
+
+def calls_in(path, folder):
+    """The calls on files of a folder that strace saw and that succeeded, each as a word and the short names of its
+    files."""
+    return [" ".join([word, *names]) for word, names, _ in all_calls_in(path, folder) if word != "fail"]
+
+
+def all_calls_in(path, folder):
+    """The same with syncs that were made to fail, as a word, the short names and what the call returned."""
+    begun, calls = {}, []
+    with open(path, encoding="utf-8", errors="replace") as source:
+        for line in source:
+            thread, call = line.split(None, 1)
+            call = call.rstrip("\n")
+            if call.endswith("<unfinished ...>"):
+                begun[thread] = call.removesuffix("<unfinished ...>")
+                continue
+            if call.startswith("<..."):
+                call = begun.pop(thread, "") + call.partition("resumed>")[2]
+            names = [short_name(name) for name in re.findall(re.escape(folder) + r"(?:/[0-9a-z.]+)?(?=[\">])", call)]
+            word = "fail" if call.endswith("(INJECTED)") else word_of(call)
+            result = re.search(r"= (-?\d+)[^=]*$", call)
+            if names and word and (word == "fail" or not re.search(r"= -1 E", call)):
+                calls.append((word, list(dict.fromkeys(names)), int(result.group(1)) if result else 0))
+    return calls
+
+
+def word_of(call):
+    """The word for a call: nothing if it changes no file."""
+    if call.startswith("openat"):
+        return "make" if "O_CREAT|O_EXCL" in call else ""
+    return {"write": "write", "pwrite64": "again", "fsync": "sync", "fdatasync": "sync", "rename": "rename",
+            "unlink": "remove"}.get(call.partition("(")[0], "")
+
+
+def short_name(path):
+    """A file of a folder by its number and its ending."""
+    name = os.path.basename(path)
+    if name == "books.csv":
+        return "rows"
+    return name.lstrip("0") if "." in name else "folder"
+
+
+def expect_steps(calls, after, wanted, what):
+    """Wants these calls one after the other after the call at an index. One that is made again at once counts once, and
+    the making of files does not."""
+    steps = [call for call, _ in itertools.groupby(calls[after + 1:]) if not call.startswith("make ")]
+    wanted = wanted.split(", ")
+    expect_equal(steps[:len(wanted)], wanted, f"the steps of {what}")
+
+
+def syncs_fail(run):
+    """Each sync of a run fails once: of a start over a book that was cut, and of rotations and an end. Either the start
+    is refused with a message, or what the sync was of is written again before the next one, and no name and no row
+    rests on it before. The books are whole in the end."""
+    if not shutil.which("strace"):
+        print("syncs_fail: skipped, since there is no strace here (Debian's package strace)")
+        return
+    files, failed = files_of_a_cut_book(run), set()
+
+    def sync(run, number):
+        sync_fails(run, files, number, failed)
+
+    first, last = 1, syncs_at_start(faulted(run, files, None)[1]) + SYNCS_OF_A_BOOK
+    while first <= last or not SYNCED <= failed:
+        expect(first < MOST_SYNCS, f"a sync failed of these only: {sorted(failed)}")
+        run.side_by_side([(sync, number) for number in range(first, first + AT_ONCE)], LIMIT)
+        first += AT_ONCE
+    expect_equal(failed, {"start", *SYNCED}, "what a sync failed of")
+
+
+def files_of_a_cut_book(run):
+    """The open book of a gateway that was killed, and its tariffs: texts by name."""
+    far = run.far_end()
+    gateway = run.gateway(far, {"a": 1})
+    gateway.send("a", range(10))
+    far.wait_for(10)
+    gateway.kill()
+    return {name: read_text(gateway, name) for name in ("000001.open", "000001.tariffs")}
+
+
+def faulted(run, files, number):
+    """A gateway that began over these files, rotated and ended, and in which this sync of each thread failed, unless it
+    is none; the file of its calls, and whether it began at all."""
+    far = run.far_end()
+    words = ["-e", f"inject=fsync,fdatasync:error=EIO:when={number}"] if number else []
+    gateway, prefix, seen = under_strace(run, far, files, *words)
+    # One bill of all books by their rows is less work than one of each.
+    gateway.under[2] = TARIFFS
+    # A start that is refused may listen before.
+    try:
+        began = gateway.start(prefix=prefix).control.ask("status")
+    except (Failure, OSError):
+        began = False
+    if not began:
+        gateway.wait(1)
+        return gateway, seen, False
+    for book in range(2, 3 + FEW_BOOKS):
+        gateway.send("a", range(10))
+        far.wait_for(10 * (book - 1))
+        gateway.control.expect(*(("end", "ok") if book == 2 + FEW_BOOKS else ("rotate", f"book {book + 1}")))
+    gateway.wait()
+    return gateway, seen, True
+
+
+def sync_fails(run, files, number, failed):
+    """The sync of this number fails, of the loop's thread if it makes so many, and otherwise of that which closes
+    books. What failed is noted."""
+    gateway, seen, began = faulted(run, files, number)
+    found = {short_name(name): len(text) for name, text in files.items()}
+    calls = all_calls_in(seen, os.path.realpath(gateway.folder))
+    faults = [names[0] for word, names, _ in calls if word == "fail"]
+    if began:
+        for at, (word, names, _) in enumerate(calls):
+            if word == "fail":
+                expect_written_again(calls, at, names[0], found)
+        failed |= {name.rpartition(".")[2] for name in faults}
+    else:
+        last = gateway.said().splitlines()[-1]
+        expect(last.startswith((gateway.folder, "stridelink: ")) and "(os error 5)" in last, f"said: {last}")
+        failed.add("start")
+        gateway.start()
+        gateway.control.expect("end", "ok")
+        gateway.wait()
+    gateway.check_books(may_skip=True)
+    expect_equal(gateway.rows()[0]["packets"], "10", "packets of the book that was cut")
+
+
+def expect_written_again(calls, at, name, found):
+    """Wants that a sync of a file that failed is made again, and that the bytes are written again before, those of a
+    file that was found too. Until then no name and no row rests on the file."""
+    synced = (place for place, (word, names, _) in enumerate(calls) if place > at and (word, names) == ("sync", [name]))
+    after = next(synced, None)
+    expect(after, f"{name} has no sync after one that failed: {shortened(calls[at:])}")
+    if name == "folder":
+        return
+    between = calls[at + 1:after]
+    again = sum(count for word, names, count in between if word in ("write", "again") and names == [name])
+    written = found.get(name, 0) + sum(count for word, names, count in calls[:at] if (word, names) == ("write", [name]))
+    expect(again >= written if name != "rows" else again, f"{again} bytes of {written} are written again of {name}")
+    resting = [(word, names) for word, names, _ in between
+               if word == "rename" and name in names or "rows" in names and name != "rows"]
+    expect_equal(resting, [], f"what rests on {name} before it is synced")
+
+
+def syncs_at_start(path):
+    """How many syncs the loop's thread made, whose calls come first."""
+    with open(path, encoding="utf-8", errors="replace") as source:
+        calls = [line.split(None, 1) for line in source]
+    return sum(thread == calls[0][0] and call.startswith(("fsync(", "fdatasync(")) for thread, call in calls)
+
+
+def unsynced_numbers(run):
+    """A start, a reload and `--forget` that cannot sync the folder after flows.csv was renamed fail, and name the file.
+    The next start or reload writes the numbers again, even if the gateway has the same."""
+    if not shutil.which("strace"):
+        print("unsynced_numbers: skipped, since there is no strace here (Debian's package strace)")
+        return
+    gateway = run.prepared(run.far_end(), {"a": 1})
+    rows, seen = os.path.join(gateway.folder, "flows.csv"), os.path.join(run.folder(), "syncs")
+    reason = "Input/output error (os error 5)"
+    fault = f"{rows}: {reason}"
+    status, shown, said = run_program([*failing(gateway, seen, 1), GATEWAY, *WORDS, gateway.file], program="strace")
+    expect_equal((status, shown, said.splitlines()[-1]), (1, "", f"stridelink: {fault}"), "a start with no sync")
+    expect_equal(os.listdir(gateway.folder), ["flows.csv"], "the files after a refused start")
+    renamed = os.stat(rows).st_ino
+    gateway.start(prefix=["strace", *failing(gateway, seen, AT_A_START + 1)])
+    gateway.status()
+    expect(os.stat(rows).st_ino != renamed, "the next start takes the numbers as written")
+    with open(seen, encoding="utf-8", errors="replace") as syncs:
+        expect_equal(len(syncs.readlines()), AT_A_START, "the syncs of the folder at a start")
+    gateway.tenants["b"] = Tenant([1])
+    gateway.write()
+    gateway.control.expect("reload", f"no {gateway.file}: {fault}")
+    gateway.tenants.pop("b")
+    gateway.write()
+    gateway.control.expect("reload", "book 2")
+    expect_equal(gateway.numbers(), [(1, "a", True)], "the rows of flows.csv, of which one was refused")
+    gateway.tenants["b"] = Tenant([1])
+    gateway.write()
+    gateway.control.expect("reload", "book 3")
+    expect_equal(gateway.numbers(), [(1, "a", True), (2, "b", True)], "the rows of flows.csv")
+    gateway.end()
+    gateway.tenants.pop("b")
+    gateway.write()
+    words = [*failing(gateway, seen, 1), GATEWAY, *WORDS, "--forget", "b", gateway.file]
+    expect_equal(run_program(words, program="strace"), (1, "", f"{gateway.folder}: flows.csv: {reason}\n"), "--forget")
+
+
+# How often the loop's thread syncs the folder at a start: after flows.csv, the tariffs and the text.
+AT_A_START = 3
+
+
+def failing(gateway, seen, count):
+    """The words of strace with which one sync of a gateway's folder fails by the thread that begins."""
+    return ["-y", "-qq", "-e", "signal=none", "-P", os.path.realpath(gateway.folder), "-e", "trace=fsync",
+            "-e", f"inject=fsync:error=EIO:when={count}", "-o", seen]
 
 
 # ---- The disk
@@ -1615,7 +2303,7 @@ def disk_fails_at_the_end(run):
     run.flood(gateway, "a", size=20)
     wait_for(lambda: gateway.messages("disk"), "a line about the disk")
     ends_after_a_second(run, gateway)
-    expect_equal(sorted(os.listdir(gateway.view)), ["000001.open", "000001.tariffs", "taken"], "the files")
+    expect_equal(sorted(os.listdir(gateway.view)), ["000001.open", "000001.tariffs", "flows.csv", "taken"], "the files")
     came = far.wait_until_over()
     os.remove(os.path.join(gateway.view, "taken"))
     again = on_disk(run, far, *holder)
@@ -1648,14 +2336,16 @@ def slow_ones(run):
     run.side_by_side([(period,), (far_end_goes,), (far_end_does_not_answer,)], LIMIT)
 
 
-CASES = (checks, wrong_files, addresses_in_use, second_gateway, folder_without_leave, orders, status, status_under_load,
-         too_many_connections, too_many_controls, replies_not_read, asked, reloads, tariffs_reloaded,
-         killed_after_tariffs, one_of_two_ports, reload_refused, reload_under_load, rotations, lives, whole,
-         much_is_carried, great_number, many_rows, rotations_without_a_pause, shares, shares_of_small, rate,
-         one_against_eight, two_losses, far_end_away, far_end_writes, far_end_reads_nothing, wrong_records, slow_bytes,
-         sizes, hung_up, resets, stopped_and_continued, unix_sockets, unix_modes_reloaded, until_eof, grace_is_over,
-         held_at_the_end, end_is_sent, killed, killed_between_books, bad_books, disk_fills, disk_fails_at_the_end,
-         slow_ones)
+CASES = (checks, wrong_files, addresses_in_use, second_gateway, folder_without_leave, orders, status,
+         status_under_load, too_many_connections, too_many_controls, replies_not_read, asked, messages, many_lines,
+         few_descriptors, memory_is_full, reloads, tariffs_reloaded, killed_after_tariffs, one_of_two_ports,
+         reload_refused, names_of_a_refused_reload, tables_come_and_go, great_numbers, numbers_of_a_folder,
+         forgotten_names, reload_under_load, rotations, lives, whole, much_is_carried, great_number, many_rows,
+         rotations_without_a_pause, shares, shares_of_small, rate, one_against_eight, two_losses, far_end_away,
+         far_end_writes, far_end_reads_nothing, wrong_records, slow_bytes, sizes, hung_up, resets,
+         stopped_and_continued, unix_sockets, unix_modes_reloaded, until_eof, grace_is_over, held_at_the_end,
+         end_is_sent, killed, killed_between_books, bad_books, rows_put_back, times_of_files, syncs_in_order,
+         syncs_fail, unsynced_numbers, disk_fills, disk_fails_at_the_end, slow_ones)
 
 
 if __name__ == "__main__":

@@ -46,6 +46,9 @@ FRAME = struct.Struct(">BB" + FIELDS[SERVED][1:])
 FILLING = b"x" * 9000
 NUMBER = struct.Struct(">I")
 
+# A time, as rows and messages have it.
+TIME = re.compile(r"\d{4}-\d\d-\d\dT\d\d:\d\d:\d\dZ")
+
 # A line of standard error: its time, what it is about, the tenant, and why.
 MESSAGE = re.compile(r"(\d{4}-\d\d-\d\dT\d\d:\d\d:\d\dZ) ([a-z]+) (\S+) (.+)")
 
@@ -279,9 +282,15 @@ class Tenant:
         if self.ports is None:
             self.ports = [address_of(free_port())]
 
-    def text(self, name):
+    def text(self, name, flow=None):
+        """Its table. It has this flow number, unless its lines have one."""
         ports = ", ".join(f'"{port}"' for port in self.ports)
-        return ["[[tenant]]", f'name = "{name}"', f"port = [{ports}]", grants_text(self.grants), *self.lines]
+        lines = self.lines if flow is None or self.flow() else [f"flow = {flow}", *self.lines]
+        return ["[[tenant]]", f'name = "{name}"', f"port = [{ports}]", grants_text(self.grants), *lines]
+
+    def flow(self):
+        """Whether its lines have a flow number."""
+        return any(line.startswith("flow =") for line in self.lines)
 
 
 def grants_text(grants):
@@ -302,10 +311,10 @@ class Message:
 
 
 class Gateway:
-    """A gateway and its file. Tenants are given by name: a tenant, or the amount of its one grant of base. The flow of
-    a tenant is its place, unless its lines say another. Tariffs are given as a row of books.csv has them. `under` has
-    the tariffs of books, by the number of the first one that has them. `view` is where this program sees the folder of
-    the books."""
+    """A gateway and its file. Tenants are given by name: a tenant, or the amount of its one grant of base. In a file
+    with a downlink the flow of a tenant is its place, unless its lines say another. Tariffs are given as a row of
+    books.csv has them. `under` has the tariffs of books, by the number of the first one that has them. `view` is where
+    this program sees the folder of the books."""
 
     def __init__(self, place, uplink, tenants, currencies=None, uplink_lines=(), books_lines=(), control=None,
                  control_lines=(), folder=None, tariffs=None):
@@ -337,8 +346,8 @@ class Gateway:
             lines += ["[[tariff]]", *(f"{key} = {number}" for key, number in zip(TARIFF_KEYS, tariff.split("/")))]
         for name, grants in self.currencies.items():
             lines += ["[[currency]]", f'name = "{name}"', grants_text(grants)]
-        for name, tenant in self.tenants.items():
-            lines += tenant.text(name)
+        for place, (name, tenant) in enumerate(self.tenants.items(), 1):
+            lines += tenant.text(name, place if "downlink" in self.sections else None)
         return "\n".join(lines) + "\n"
 
     def write(self, text=None):
@@ -429,11 +438,13 @@ class Gateway:
             return errors.read()
 
     def messages(self, what=None):
-        """The lines of standard error, each of which has to be a message; those of a kind if one is given. A line that
-        a gateway is about to print is left out."""
+        """The messages on standard error, or those of a kind. Each line there has to be a message, or a warning on the
+        file. A line that a gateway is about to print is left out."""
         found, is_over = [], self.process.poll() is not None
         said = self.said()
         for line in said.splitlines()[:None if is_over or said.endswith("\n") else -1]:
+            if line.startswith(f"{self.file}: warning: "):
+                continue
             parts = MESSAGE.fullmatch(line)
             expect(parts, f"no message: {line}")
             found.append(Message(*parts.groups()))
@@ -494,13 +505,31 @@ class Gateway:
         expect_equal(lines[-1], "", "the end of books.csv")
         return [dict(zip(COLUMNS.split(","), line.split(","))) for line in lines[1:-1]]
 
+    def numbers(self):
+        """The rows of flows.csv without their times: number, name, and whether a tenant has the name."""
+        with open(os.path.join(self.view, "flows.csv"), encoding="utf-8") as file:
+            lines = file.read().split("\n")
+        expect_equal((lines[0], lines[-1]), ("flow,name,since,until", ""), "the first and the last line of flows.csv")
+        rows = [line.split(",") for line in lines[1:-1]]
+        for row in rows:
+            expect(TIME.fullmatch(row[2]) and (row[3] == "" or TIME.fullmatch(row[3])), f"times: {row}")
+        return [(int(row[0]), row[1], row[3] == "") for row in rows]
+
+    def flows(self):
+        """The number of each tenant, as `status` has it."""
+        return {tenant["name"]: tenant["flow"] for tenant in self.status()["tenants"]}
+
     def whys(self):
         """Why each book was closed."""
         return [row["why"] for row in self.rows()]
 
+    def whys_if_any(self):
+        """The same of a gateway that runs, whose first book may be open still."""
+        return self.whys() if self.closed_books() else []
+
     def check_books(self, may_skip=False):
-        """Wants that each book is closed, and that its row says what its text comes to. A number may be skipped if a
-        book without a line was removed. A bill by rows is that of all books, and so is its check."""
+        """Wants that each book is closed, and that its row says what its text comes to. A number may have no book if
+        its text had no line. A bill by rows is that of all books, and so is its check."""
         rows, names = self.check_texts(may_skip)
         if self.is_billed_by_rows():
             self.check_bill(rows, names)
@@ -510,13 +539,21 @@ class Gateway:
             self.check_report(row, name)
 
     def check_texts(self, may_skip=False):
-        """Wants that each book is closed, and that its row has the digest and the events of its text: the rows, and the
-        names of the texts."""
+        """Wants that each number has a row, that each book is closed, and that its row has the digest and the events of
+        its text: the rows of books, and the names of the texts."""
         rows, names = self.rows(), self.books()
-        numbers = [int(row["book"]) for row in rows]
-        expect_equal(numbers, [int(name.split(".")[0]) for name in names], "the numbers of the rows and of the files")
-        expect(may_skip or numbers == list(range(1, len(names) + 1)), f"the numbers of the books: {numbers}")
-        files = sorted(names + [name.split(".")[0] + ".report" for name in names] + ["books.csv"])
+        expect_equal([int(row["book"]) for row in rows], list(range(1, len(rows) + 1)), "the numbers of the rows")
+        beside = [f"{int(row['book']):06}.tariffs" for row in rows]
+        for row in rows:
+            if row["why"] == "none":
+                expect(may_skip, f"a number without a book: {row}")
+                expect_equal((row["tariffs"], row["events"], row["amount"], row["sha256"]),
+                             ("", "0", "0", hashlib.sha256(b"").hexdigest()), "a row without a book")
+        rows = [row for row in rows if row["why"] != "none"]
+        expect_equal([int(row["book"]) for row in rows], [int(name.split(".")[0]) for name in names],
+                     "the numbers of the rows and of the files")
+        files = sorted(names + [name.split(".")[0] + ".report" for name in names] + beside +
+                       ["books.csv", "flows.csv"])
         expect_equal(sorted(os.listdir(self.view)), files, "the files of the folder")
         for row, name in zip(rows, names):
             with open(os.path.join(self.view, name), "rb") as text:

@@ -1,6 +1,7 @@
 """The tools of the cases of serve.py and hostile.py: the server that is tried, the clients and the peer of its uplink,
 the checks that hold for each run, and what tries the cases."""
 import contextlib
+import itertools
 import os
 import re
 import resource
@@ -424,8 +425,14 @@ def lower(server, what, limit):
 
 
 def lowest_free(server):
+    return limit_of_free(server, 1) - 1
+
+
+def limit_of_free(server, count):
+    """The least limit of descriptors below which that many are free: they need not follow one another."""
     taken = {int(name) for name in os.listdir("/proc/%d/fd" % server.process.pid)}
-    return next(number for number in range(1 << 20) if number not in taken)
+    free = (number for number in range(1 << 20) if number not in taken)
+    return next(itertools.islice(free, count - 1, None)) + 1
 
 
 def send_on(connection, data):

@@ -210,9 +210,9 @@ def print_whole(text):
 
 
 def run_tool(work):
-    """Runs a tool, and ends it. A fault is printed, with status 1."""
+    """Runs a tool, and ends it with the status that it returns, or with 0. A fault is printed, with status 1."""
     try:
-        work()
+        sys.exit(work())
     except OSError as fault:
         sys.exit("%s: %s%s" % (NAME, "%s: " % fault.filename if fault.filename else "", fault.strerror))
     except (Fault, NoReport) as fault:

@@ -8,6 +8,9 @@
 
 \set ON_ERROR_STOP on
 
+-- That the table is there already is no news.
+set client_min_messages = warning;
+
 begin;
 
 create table if not exists bills (

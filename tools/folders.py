@@ -25,8 +25,13 @@ class Row:
         """The name of the text of its book."""
         return "%06d.%s" % (int(self["book"]), ENDINGS[self["kind"]])
 
+    def is_bad(self):
+        """Whether its text is no run."""
+        return self["why"] == "bad"
+
     def has_text(self):
-        return self["why"] != "bad"
+        """Whether it has a text that is a run. A row that says none has no book."""
+        return self["why"] not in ("bad", "none")
 
 
 class Folder:
@@ -69,7 +74,7 @@ def expect_standard(path):
     beside = os.path.join(folder, name.partition(".")[0] + ".tariffs")
     if not tariffs and os.path.exists(beside):
         with open(beside, encoding="ascii") as source:
-            tariffs = [source.read().strip()]
+            tariffs = [source.readline().strip()]
     if tariffs and tariffs[0] != STANDARD:
         raise Fault("%s: its tariffs are '%s', and 'stridelink run' has '%s'" % (path, tariffs[0], STANDARD))
 

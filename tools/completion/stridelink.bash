@@ -8,17 +8,18 @@ _stridelink() {
         return
     fi
     case ${COMP_WORDS[1]} in
-        run) wanted="--life --strict --help" ;;
+        run) wanted="--life --strict --help --version" ;;
         serve)
-            wanted="--ingress --control --uplink --audit --workers --life --clerks --force --until-eof --verbose --help"
+            wanted="--ingress --control --uplink --audit --workers --life --clerks --force --until-eof --verbose"
+            wanted+=" --help --version"
             ;;
-        bill) wanted="--csv --json --books --plan --help" ;;
-        gateway) wanted="--check --grace --until-eof --quiet --help" ;;
+        bill) wanted="--csv --json --books --plan --repair --help --version" ;;
+        gateway) wanted="--check --forget --grace --until-eof --commands-from-input --quiet --help --version" ;;
         ask)
-            wanted="report status hold resume amend rotate reload end --help"
-            ((COMP_CWORD > 2)) || wanted="unix: --help"
+            wanted="report status hold resume amend rotate reload end --timeout --help --version"
+            ((COMP_CWORD > 2)) || wanted="unix: --help --version"
             ;;
-        help) wanted="run serve bill" ;;
+        help) wanted="gateway ask bill run serve" ;;
     esac
     # In --audit=FILE the sign is a word of its own.
     if [[ $word == = ]]; then
@@ -40,7 +41,7 @@ _stridelink() {
             return
             ;;
         --workers | --clerks) wanted="1 2 3 4 5 6 7 8" ;;
-        --ingress | --control | --uplink | --life | --grace) return ;;
+        --ingress | --control | --uplink | --life | --grace | --timeout | --forget) return ;;
         *)
             if [[ ${COMP_WORDS[1]} =~ ^(run|bill|gateway)$ && $word != -* ]]; then
                 compopt -o default

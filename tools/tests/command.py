@@ -1,7 +1,9 @@
 #!/usr/bin/env python3
-"""Tries the command stridelink, as 'make install' puts it: which of three programs runs for which words, by which names the
-command is found, and what it passes on. The programs are stand-ins that print what they are given."""
+"""Tries the command stridelink, as 'make install' puts it: which of three programs runs for which words, in its place
+or as its child, by which names the command is found, and what it passes on. The programs are stand-ins that print what
+they are given. tests/signals.py tries what becomes of signals."""
 import os
+import signal
 import subprocess
 import sys
 
@@ -14,7 +16,9 @@ SHELLS = [shell for shell in ("sh", "dash", "bash", "busybox") if subprocess.run
 
 
 def stand_in(folder, name):
-    path = write(folder, name, '#!/bin/sh\nprintf "%%s\\n" "%s" "$$" "$@"\nexit 7\n' % name)
+    """A program that prints its name, its process and its words, on standard error if CHILD is set."""
+    text = '#!/bin/sh\n[ -z "${CHILD-}" ] || exec >&2\nprintf "%%s\\n" "%s" "$$" "$@"\nexit 7\n'
+    path = write(folder, name, text % name)
     os.chmod(path, 0o755)
     return path
 
@@ -39,16 +43,39 @@ def ran(words, program, *given, cwd=None, **settings):
     expect_equal((process.returncode, printed.decode(), told), (7, wanted, b""), "%s of %s" % (words, list(given)))
 
 
+def ran_child(words, program, given, wanted, **how):
+    """Wants that a command runs this program as its child, with these words, whose input is a pipe, and has its
+    status."""
+    done = subprocess.run([*words, *given], stdin=subprocess.DEVNULL, stdout=subprocess.PIPE, stderr=subprocess.PIPE,
+                          env={**os.environ, "CHILD": "yes"}, timeout=LIMIT, check=False, **how)
+    name, number, *found = done.stderr.decode().split("\n")
+    expect_equal((done.returncode, name, found), (7, "stridelink-" + program, [*"\n".join(wanted).split("\n"), ""]),
+                 "%s of %s" % (words, list(given)))
+    expect(number.isdigit(), "the process of a child: %s" % number)
+    expect_equal(done.stdout, b"", "standard output")
+
+
 def words(run):
-    """The first word says which program runs, and all words are passed on as they are."""
+    """The first word says which program runs, or the second one after `help`. All words are passed on as they are."""
     command = os.path.join(installed(run), "bin", "stridelink")
-    for first in ("gateway", "ask", "bill"):
-        ran([command], "gateway", first, "a b", "", "--x", "*", "$HOME", "two\nlines")
+    odd = ("a b", "", "--x", "*", "$HOME", "two\nlines")
+    for first in ("ask", "bill"):
+        ran([command], "gateway", first, *odd)
         ran([command], "gateway", first)
-    for given in (("serve",), ("serve", "gateway"), ("serve", "--help")):
+        ran([command], "gateway", "help", first)
+    for given in (("serve", "--help"), ("serve", "x", "-h"), ("help", "serve")):
         ran([command], "link", *given)
-    for given in ((), ("run",), ("run", "serve"), ("bills", "bill"), ("--version",), ("",), ("help", "serve"),
-                  ("servers",), ("gateways", "ask"), ("-h", "ask")):
+    ran([command], "gateway", "help", "gateway")
+    for given in (("gateway", "--check", *odd), ("gateway", *odd, "--help"), ("gateway", "-h"),
+                  ("gateway", "--commands-from-input", *odd)):
+        ran([command], "gateway", *given)
+    for further in ((), odd, ("--", "--check"), ("--until-eof", "x")):
+        ran_child([command], "gateway", ("gateway", *further), ("gateway", "--commands-from-input", *further))
+    for further in ((), odd, ("gateway",), ("--", "--until-eof")):
+        ran_child([command], "link", ("serve", *further), ("serve", "--until-eof", *further))
+    ran_child([command], "link", ("serve", "--until-eof", *odd), ("serve", "--until-eof", *odd))
+    for given in ((), ("run",), ("run", "serve"), ("bills", "bill"), ("--version",), ("",), ("help",),
+                  ("help", "run"), ("help", "walk"), ("servers",), ("gateways", "ask"), ("-h", "ask")):
         ran([command], "script", *given)
 
 
@@ -65,6 +92,8 @@ def names(run):
         for shell in SHELLS:
             begin = [shell, "sh"] if shell == "busybox" else [shell]
             ran([*begin, os.path.join(elsewhere, name)], "gateway", "ask", "x")
+            ran_child([*begin, os.path.join(elsewhere, name)], "gateway", ("gateway", "a b", ""),
+                      ("gateway", "--commands-from-input", "a b", ""))
             ran([*begin, "./" + name], "script", "run", cwd=elsewhere)
     ran(["stridelink"], "gateway", "ask", PATH="%s:%s" % (folder, os.environ["PATH"]))
     ran(["sh", "stridelink"], "gateway", "ask", cwd=folder)
@@ -81,7 +110,30 @@ def beside(run):
         fault = "stridelink: cannot find stridelink-%s\n" % program
         expect_equal((done.returncode, done.stdout, done.stderr.decode()), (1, b"", fault), "a missing program")
         stand_in(folder, "stridelink-" + program)
-        ran([command], program, first)
+        ran([command], program, first, "--help")
+
+
+def pipes(run):
+    """The pipe to a child is made in TMPDIR, and elsewhere if that cannot be, and leaves nothing there. Its end is that
+    of the child, whichever shell runs the command and whatever the user's input is."""
+    prefix = installed(run)
+    write(os.path.join(prefix, "libexec", "stridelink"), "stridelink-gateway",
+          '#!/bin/sh\necho "$2" >&2\nls /proc/self/fd >&2\nread -r line && echo "$line" >&2\nexit 7\n')
+    command = os.path.join(prefix, "bin", "stridelink")
+    place = run.folder()
+    for shell in SHELLS:
+        begin = [shell, "sh"] if shell == "busybox" else [shell]
+        for where in (place, os.path.join(place, "nowhere")):
+            for stdin in (subprocess.DEVNULL, subprocess.PIPE, None):
+                how = {"preexec_fn": lambda: os.close(0)} if stdin is None else {"stdin": stdin}
+                process = subprocess.Popen([*begin, command, "gateway", "x"], stderr=subprocess.PIPE,
+                                           env={**os.environ, "TMPDIR": where}, **how)
+                begun = [process.stderr.readline() for _ in range(5)]
+                expect_equal(begun, [b"--commands-from-input\n", b"0\n", b"1\n", b"2\n", b"3\n"], "what a child has")
+                expect_equal(os.listdir(place), [], "files of TMPDIR")
+                process.send_signal(signal.SIGTERM)
+                told = process.communicate(timeout=LIMIT)[1]
+                expect_equal((process.returncode, told), (7, b"end\n"), "the end in %s" % shell)
 
 
 def streams(run):
@@ -90,7 +142,8 @@ def streams(run):
     program = os.path.join(prefix, "libexec", "stridelink", "stridelink-gateway")
     write(os.path.dirname(program), "stridelink-gateway", '#!/bin/sh\nls /proc/self/fd\n')
     command = os.path.join(prefix, "bin", "stridelink")
-    whole = subprocess.run(["sh", "-c", '"$0" ask 5< /dev/null', command], capture_output=True, timeout=LIMIT, check=True)
+    whole = subprocess.run(["sh", "-c", '"$0" ask 5< /dev/null', command], capture_output=True, timeout=LIMIT,
+                           check=True)
     expect("5" in whole.stdout.decode().split(), "descriptors: %s" % whole.stdout)
     closed = subprocess.run(["sh", "-c", '"$0" ask <&-', command], capture_output=True, timeout=LIMIT, check=True)
     # ls opens the folder at the least descriptor that is free.
@@ -99,4 +152,4 @@ def streams(run):
 
 expect(len(SHELLS) >= 2, "only one shell: %s" % SHELLS)
 sys.stdout.flush()
-try_cases(words, names, beside, streams)
+try_cases(words, names, beside, pipes, streams)

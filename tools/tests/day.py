@@ -26,18 +26,32 @@ verb=$1 name=${2#stridelink@}
 unit=/lib/systemd/system/stridelink@.service
 export PATH=/usr/bin:/bin
 run=/run/stridelink/$name
-export MAINPID
-MAINPID=$(cat "$run.pid" 2> /dev/null || true)
+pid=$(cat "$run.pid" 2> /dev/null || true)
 command_of() { sed -n "s|^$1=||p" "$unit" | sed "s|%i|$name|g"; }
 start() {
     mkdir -p "$run" "/var/lib/stridelink/$name"
     $(command_of ExecStartPre) > /dev/null
-    $(command_of ExecStart) < /dev/null > "/run/journal" 2>&1 &
-    MAINPID=$!
-    echo "$MAINPID" > "$run.pid"
-    $(command_of ExecStartPost)
+    rm -f "$run.notices"
+    python3 -c "$LISTEN" "$run.socket" > "$run.notices" &
+    echo "$!" > "$run.manager"
+    until [ -S "$run.socket" ]; do sleep 0.05; done
+    NOTIFY_SOCKET=$run.socket $(command_of ExecStart) < /dev/null > "/run/journal" 2>&1 &
+    echo "$!" > "$run.pid"
+    until grep -q '^READY=1$' "$run.notices"; do kill -0 "$!"; sleep 0.05; done
 }
-stop() { $(command_of ExecStop) > /dev/null; rm -r "$run.pid" "$run"; }
+stop() {
+    kill -TERM "$pid"
+    tail --pid="$pid" -f /dev/null
+    kill "$(cat "$run.manager")"
+    rm -r "$run.pid" "$run.socket" "$run"
+}
+LISTEN='
+import socket, sys
+manager = socket.socket(socket.AF_UNIX, socket.SOCK_DGRAM)
+manager.bind(sys.argv[1])
+while True:
+    print(manager.recv(4096).decode(), end="", flush=True)
+'
 case $verb in
     start) start ;;
     stop) stop ;;

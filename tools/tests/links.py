@@ -48,10 +48,11 @@ class Engine:
                        stdout=subprocess.DEVNULL, cwd="/", timeout=LIMIT, check=True)
 
     def query(self, rows, name="bills.sql"):
-        """Gives rows to a query: its status, and the rows of its answer."""
+        """Gives rows to a query: its status, and the rows of its answer. One that ends well has nothing else to say."""
         done = subprocess.run(["psql", "-q", "-X", "-A", "-t", "-h", self.folder, "-U", USER, "-f",
                                os.path.join(TOOLS, name)], input=rows.encode(), stdout=subprocess.PIPE,
                               stderr=subprocess.PIPE, timeout=LIMIT, check=False)
+        expect(done.returncode or not done.stderr, "the query of %s says: %s" % (name, done.stderr.decode()))
         return done.returncode, [line.split("|") for line in done.stdout.decode().splitlines()]
 
 

@@ -1,6 +1,6 @@
 #!/usr/bin/env python3
-"""Tries the manual pages: mandoc finds nothing to say, what the sources of the programs have stands in the pages, and so
-do the lines, answers and texts that the programs print; and their examples are answered as they show. The page of the
+"""Tries the manual pages: mandoc finds nothing to say, what the sources of the programs have stands in the pages, and
+so do the lines, answers and texts that the programs print. Their examples are answered as they show. The page of the
 tools has their options, and the page of a gateway's file has its keys."""
 import os
 import re
@@ -82,8 +82,8 @@ def options(run):
     others = re.findall(r'\b(?:flag|valued|required|source)\(\s*alloc,\s*"([a-z-]+)",\s*(?:"([A-Z]+)")?', words)
     wanted = [("--%s %s" % option).strip() for option in flags + others]
     expect_all(wanted, 13, section(page(COMMANDS), "SYNOPSIS"), "options in the synopsis")
-    expect_all(("-h", "--help", "-V", "--version", "[FILE]", "FILE ...", "run", "serve", "bill"), 9, section(page(COMMANDS), "SYNOPSIS"),
-               "words in the synopsis")
+    expect_all(("-h", "--help", "-V", "--version", "[FILE]", "FILE ...", "run", "serve", "bill"), 9,
+               section(page(COMMANDS), "SYNOPSIS"), "words in the synopsis")
     paragraphs = re.findall(r"^     (?:-\w, )?(--.*)$", section(page(COMMANDS), "DESCRIPTION"), re.MULTILINE)
     missing = {*wanted, "--help", "--version"} - set(paragraphs)
     expect(not missing, "options without a paragraph: %s" % missing)
@@ -156,6 +156,7 @@ def gateway_faults(run):
     """Each fault text of a gateway's program stands among the diagnostics."""
     texts = set()
     for path in (("gateway", "faults.rt"), ("gateway", "asking.rt"), ("gateway", "texts.rt"),
+                 ("gateway", "stack.rt"),
                  ("share_asking", "talk.rt"), ("share_news", "faults.rt")):
         texts |= fault_texts(source(*path))
     wanted = [text for text in texts if "{" not in text and text != "LINE" and not re.match(r"(unix|udp|fd)", text)]
@@ -175,6 +176,21 @@ def gateway_lines(run):
         paragraph(subsection(text, "Messages"), "`%s'" % kind)
     shown = set(re.findall(r"^     `(\w+)'(?: |$)", subsection(text, "Messages"), re.MULTILINE))
     expect_equal(sorted(shown), sorted(kinds), "kinds of messages")
+    words = dict(re.findall(r'Kind::(\w+) => "(\w+)"', source("share_messages", "kind.rt")))
+    expect_equal(sorted(words[name] for name in printed_kinds()), sorted(kinds), "kinds of messages that are printed")
+
+
+def printed_kinds():
+    """The kinds of messages that sources name outside of their own crate and of tests: what a gateway prints."""
+    crates = os.path.join(TOP, "crates")
+    found = set()
+    for crate in sorted(os.listdir(crates)):
+        folder = os.path.join(crates, crate, "src")
+        if crate == "share_messages" or crate.endswith("_tests") or not os.path.isdir(folder):
+            continue
+        texts = [source(crate, name) for name in os.listdir(folder) if name.endswith(".rt")]
+        found |= {name for text in texts if "share_messages" in text for name in re.findall(r"\bKind::(\w+)", text)}
+    return found
 
 
 def table_of_settings():
@@ -189,8 +205,8 @@ def table_of_settings():
 
 
 def settings(run):
-    """Each key of the sources has a paragraph in the part of its table, with the numbers and the words that the table of
-    settings has."""
+    """Each key of the sources has a paragraph in the part of its table, with the numbers and the words that the table
+    of settings has."""
     text = page(FILE_PAGE)
     keys = source("share_config", "key.rt")
     spelled = dict(re.findall(r'Key::(\w+) => "(\w+)"', keys))

@@ -286,12 +286,15 @@ def units(run):
     """systemd-analyze has nothing to say about the units, with their pages and their commands, and finds each confined.
     The examples of their configurations are there, and that of a gateway has no fault."""
     root, source = installed(), os.path.join(TOOLS, "systemd")
+    # The script of the devices of the instance i, which systemd-analyze takes for a template.
+    root.tell("sh", "-c", "install /bin/true /etc/stridelink/i-devices")
     for path in sorted(glob.glob(os.path.join(source, "*@.*"))):
         name = os.path.basename(path)
         expect_equal(root.tell("cat", UNITS + name), text(path), name)
         expect_equal(root.tell("systemd-analyze", "verify", UNITS + name), "", "systemd-analyze verify of " + name)
         if name.endswith(".service"):
-            root.tell("systemd-analyze", "security", "--offline=true", "--threshold=15", UNITS + name)
+            exposure = 25 if "tunnel" in name else 15
+            root.tell("systemd-analyze", "security", "--offline=true", "--threshold=%d" % exposure, UNITS + name)
     for name in ("serve-example.conf", "example.toml"):
         expect_equal(root.tell("cat", "%s/%s" % (EXAMPLES, name)), text(os.path.join(source, name)), name)
     expect_equal(root.tell("stridelink", "gateway", "--check", EXAMPLES + "/example.toml"),
@@ -324,7 +327,8 @@ def removed(run):
     root.tell("cp", EXAMPLES + "/serve-example.conf", "/etc/stridelink/north.conf")
     root.tell("sh", "-c", "dpkg --no-triggers --purge stridelink 2> /dev/null")
     expect_equal(text(root.path("tmp/asked")),
-                 "stop stridelink-books@*.timer stridelink@*.service stridelink-serve@*.service\n",
+                 "stop stridelink-books@*.timer stridelink@*.service stridelink-serve@*.service "
+                 "stridelink-tunnel@*.service\n",
                  "what systemctl is asked")
     left = root.tell("sh", "-c", 'for path; do [ ! -e "$path" ] || echo "$path"; done', "sh", *files)
     expect_equal(left, "", "files that are left")

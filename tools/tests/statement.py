@@ -102,6 +102,39 @@ def altered(run):
     expect_fails("%s: no book was closed in this period" % folder, "statement", "--from", "2027", folder)
 
 
+def add_rows(folder, *rows):
+    """Adds rows of numbers from 4 on without a run, for these reasons."""
+    with open(os.path.join(folder, "books.csv"), "a", encoding="ascii") as table:
+        for number, why in enumerate(rows, 4):
+            table.write(",".join((str(number), "lengths", "2026-02-02T00:00:00Z", "2026-02-03T00:00:00Z", why, "",
+                                  *["0"] * 5, "a" * 64)) + "\n")
+
+
+def missing(run):
+    """A bad book is named, and the status is 3. A number without a book is passed over."""
+    folder = books(run)
+    add_rows(folder, "none")
+    expect_equal(found(folder), PERIODS[0][1], "a number without a book")
+    folder = books(run)
+    add_rows(folder, "none", "bad", "none")
+    status, printed, told = tool("statement", "--csv", folder, program=GATEWAY)
+    rows = list(csv.DictReader(io.StringIO(printed)))
+    expect_equal((status, [row["missing"] for row in rows]), (3, ["5", "5"]), "a bad book")
+    expect_equal({row["tenant"]: tuple(int(row[column]) for column in ("packets", "bytes", "units", "amount"))
+                  for row in rows}, PERIODS[0][1], "the bill of the other books")
+    expect("%s: book 5 is bad" % folder in told, "told: %s" % told)
+    status, printed, _ = tool("statement", "--json", folder, program=GATEWAY)
+    expect_equal((status, json.loads(printed)["missing"], len(json.loads(printed)["books"])), (3, [5], 3), "JSON")
+    status, printed, _ = tool("statement", folder, program=GATEWAY)
+    expect_equal((status, printed.splitlines()[-1].split()[:3]), (3, ["5", "is", "bad,"]), "the table")
+    status, printed, _ = tool("statement", "--csv", "--from", "2026-02-03", folder, program=GATEWAY)
+    rows = list(csv.DictReader(io.StringIO(printed)))
+    expect_equal((status, [(row["tenant"], row["amount"], row["missing"]) for row in rows]), (3, [("", "0", "5")]),
+                 "a period with a bad book alone")
+    status, printed, told = tool("statement", "--to", "2026-02-02", folder, program=GATEWAY)
+    expect_equal((status, told), (0, ""), "a period without the bad book")
+
+
 def queried(run):
     """The sums of each tenant over two links; a statement that comes twice is refused."""
     if not links.PROGRAMS:
@@ -118,4 +151,4 @@ def queried(run):
     expect_equal(engine.query(south, "statements.sql"), (0, sums), "the sums of two links")
 
 
-try_cases(periods, forms, altered, queried)
+try_cases(periods, forms, altered, missing, queried)

@@ -142,8 +142,15 @@ SOUTH = (("10.0.1.1/30", "10.0.1.2/30"), ("10.0.2.1/30", "10.0.2.2/30"),
          ("10.2.2.0/24 via 10.0.2.2", "10.1.2.0/24 via 10.0.2.1"))
 SOUTH_RULES = (("192.0.2.2", "192.0.2.1"), ("10.1.1.0/24", "10.2.1.0/24"), ("10.1.2.0/24", "10.2.2.0/24"))
 
-# Seconds for which both tenants send, in the place of the page's.
+# Seconds for which both tenants send, and the rate, each in the place of the page's: a program that is not optimised on a
+# busy machine follows such a rate. So many times as much as bond gets acme at least, where its tickets give it 3.
 SENDING = 5
+RATES = ("18400 kbit/s", "2000 kbit/s")
+LEAST_RATIO = 1.5
+
+# What a client of iperf3 prints of a tenant, and its units.
+RECEIVED = r"^(\w+): .*?([\d.]+) ([KM])bits/sec .*receiver$"
+UNITS = {"K": 1e3, "M": 1e6}
 
 # The two hosts of the page, with the files of the folder $1, and a host `lan` in the network of acme behind north. The
 # two have their own network, /run, /etc and /var/lib. They play the blocks of the page, and then say what they sent.
@@ -204,11 +211,12 @@ def two_hosts(folder):
     devices, rules = blocks("sh")[0], blocks("nft")[0]
     files = (("north", devices, rules), ("south", swapped(devices, SOUTH), swapped(rules, SOUTH_RULES)))
     for (side, script, firewall), settings in zip(files, blocks("toml")):
+        settings = swapped(settings, [RATES])
         os.mkdir(os.path.join(folder, side))
         for name, text in (("tunnel-devices", script), ("tunnel.nft", firewall), ("tunnel.toml", settings)):
             write(os.path.join(folder, side), name, text)
     see = "".join(line for line in block("sh", "ping -c 3").splitlines(True) if not line.startswith("journalctl"))
-    clients = block("sh", "iperf3 -c").replace("-t 30", f"-t {SENDING}")
+    clients = block("sh", "iperf3 -T").replace("-t 30", f"-t {SENDING}")
     for name, text in (("prepare", block("sh", "chmod +x")), ("see", see), ("servers", block("sh", "iperf3 -s")),
                        ("clients", clients)):
         write(folder, name, text)
@@ -233,8 +241,10 @@ def tunnel(run):
     for line in ("3 received", "\nbook 2\n", "\nlink tunnel, ", "\nacme "):
         expect(line in found["see"], f"{line!r} in {found['see']}")
     expect_equal(found["lan"], "2 received\n0 received\n", "echoes of acme's own and of bond's network")
-    rates = [float(rate) for rate in re.findall(r"([\d.]+) Mbits/sec +receiver", found["iperf3"])]
-    expect(len(rates) == 2 and 2 < max(rates) / min(rates) < 4, f"the shares of both tenants: {found['iperf3']}")
+    rates = {name: float(rate) * UNITS[unit]
+             for name, rate, unit in re.findall(RECEIVED, found["iperf3"], re.MULTILINE)}
+    expect(set(rates) == {"acme", "bond"} and rates["acme"] > LEAST_RATIO * rates["bond"],
+           f"what both tenants got: {found['iperf3']}")
     lines = found["end"].splitlines()
     expect_equal(lines[1::2], ["ok", "ok"], "the ends of both gateways")
     for line in lines[0::2]:

@@ -1,7 +1,7 @@
 #!/usr/bin/env python3
 """Tries the units of systemd: what systemd-analyze says of them, and the commands that are in them. A stop of a loaded
-server waits for its audit, which gives the bytes that the peer got. A start of a gateway waits until it answers, a stop
-until its book is closed. No systemd has to run."""
+server waits for its audit, which gives the bytes that the peer got. A start of a gateway waits for its notice, a stop
+until its book is closed. No systemd has to run: a stand-in waits for notices, and signals all processes of a unit."""
 import contextlib
 import glob
 import os
@@ -10,14 +10,14 @@ import signal
 import socket
 import subprocess
 import sys
-import threading
 import time
 
 from trying import LIMIT, TOOLS, expect, expect_equal, try_cases, write
 
 from gatewaying import connect, records
-from serving import (LISTENING, LOOPBACK, PATIENCE, PROGRAM, Control, Replay, check_arrivals, check_frames, connected,
-                     payloads, record, wait_for)
+from serving import (LISTENING, LOOPBACK, PATIENCE, PROGRAM, Control, Failure, Replay, check_arrivals, check_frames,
+                     connected, payloads, record, wait_for)
+from signals import Manager
 
 FOLDER = os.path.join(TOOLS, "systemd")
 UNIT = os.path.join(FOLDER, "stridelink-serve@.service")
@@ -25,7 +25,8 @@ GATEWAY_UNIT = os.path.join(FOLDER, "stridelink@.service")
 INSTALLED = "/usr/lib/stridelink/"
 
 # How exposed systemd-analyze may find each unit, in tenths.
-EXPOSURES = {"stridelink@.service": 15, "stridelink-books@.service": 15, "stridelink-serve@.service": 15}
+EXPOSURES = {"stridelink@.service": 15, "stridelink-books@.service": 15, "stridelink-serve@.service": 15,
+             "stridelink-tunnel@.service": 25}
 
 
 def settings(path):
@@ -43,15 +44,15 @@ class Instance:
         words = settings(os.path.join(FOLDER, "serve-example.conf"))
         self.life = int(words["LIFE"])
         words.update(INGRESS=LOOPBACK + ":0", CONTROL=LOOPBACK + ":0", UPLINK=peer.address, STRIDELINK=PROGRAM)
-        for name in ("RUNTIME_DIRECTORY", "STATE_DIRECTORY"):
-            words[name] = os.path.join(self.folder, name)
-            os.mkdir(words[name])
+        words["STATE_DIRECTORY"] = os.path.join(self.folder, "state")
+        os.mkdir(words["STATE_DIRECTORY"])
         self.words = {"PATH": os.environ["PATH"], **words}
         self.start()
 
     def start(self):
         with open(os.path.join(self.folder, "told"), "wb") as told:
-            self.process = subprocess.Popen(self.command("ExecStart"), env=self.words, stderr=told)
+            self.process = subprocess.Popen(self.command("ExecStart"), env=self.words, stderr=told,
+                                            start_new_session=True)
         self.run.stack.callback(self.close)
         wait_for(lambda: len(self.ports()) == 2, "what the server listens on")
         self.ended = self.run.thread(self.process.wait)
@@ -68,27 +69,17 @@ class Instance:
         return LOOPBACK, int(self.ports()[kind])
 
     def stop(self):
-        """Stops it as a manager does, which goes on when the command has ended."""
-        self.run_stop(MAINPID=str(self.process.pid))
+        """Stops it as a manager does: by TERM at all of its processes."""
+        os.killpg(self.process.pid, signal.SIGTERM)
         self.ended.finish()
-
-    def run_stop(self, **words):
-        subprocess.run(self.command("ExecStop"), env={**self.words, **words}, timeout=LIMIT, check=True)
-
-    def holder(self):
-        """The process that holds the input open."""
-        with open(os.path.join(self.words["RUNTIME_DIRECTORY"], "holder"), encoding="ascii") as holder:
-            return int(holder.read())
 
     def files(self, ending):
         return sorted(glob.glob(os.path.join(self.words["STATE_DIRECTORY"], "*." + ending)))
 
     def close(self):
-        if self.process.poll() is None:
-            self.process.kill()
+        with contextlib.suppress(ProcessLookupError):
+            os.killpg(self.process.pid, signal.SIGKILL)
         self.process.wait()
-        with contextlib.suppress(OSError, ValueError):
-            os.kill(self.holder(), signal.SIGKILL)
 
 
 def stop_loaded(run):
@@ -129,8 +120,7 @@ def stop_loaded(run):
 
 
 def ends_by_itself(run):
-    """A link whose connections have all ended has its audit without a stop, and the stop that follows ends what is left
-    of the instance."""
+    """A link whose connections have all ended has its audit without a stop, and no process is left."""
     instance = Instance(run, run.peer())
     for kind in ("control", "ingress"):
         for connection in [connected(instance.address(kind)) for _ in range(2)]:
@@ -138,17 +128,16 @@ def ends_by_itself(run):
     instance.ended.finish()
     expect_equal(instance.process.returncode, 0, "status")
     expect_equal([text(path) for path in instance.files("audit")], ["audit 2\n"], "the audit")
-    os.kill(instance.holder(), 0)
-    instance.run_stop()
-    wait_for(lambda: not is_there(instance.holder()), "the end of the process that held the input")
+    wait_for(lambda: not has_processes(instance.process.pid), "the end of all processes")
 
 
-def is_there(process):
-    """Whether a process runs; one that has ended and was not waited for does not."""
-    with contextlib.suppress(OSError):
-        with open("/proc/%d/stat" % process, encoding="ascii") as source:
-            return source.read().rsplit(")", 1)[1].split()[0] != "Z"
-    return False
+def has_processes(group):
+    """Whether a group of processes has one."""
+    try:
+        os.killpg(group, 0)
+    except ProcessLookupError:
+        return False
+    return True
 
 
 def flood(client, data):
@@ -178,6 +167,7 @@ class GatewayInstance:
         with open(os.path.join(FOLDER, "example.toml"), encoding="utf-8") as source:
             self.write(source.read())
         self.process = None
+        self.manager = run.keep(Manager(os.path.join(self.folder, "notify")))
         run.stack.callback(self.close)
 
     def write(self, text):
@@ -198,27 +188,31 @@ class GatewayInstance:
         return line.split()
 
     def run_command(self, key, status=0):
-        words = {"PATH": os.environ["PATH"], "STRIDELINK": PROGRAM}
-        if self.process and self.process.poll() is None:
-            words["MAINPID"] = str(self.process.pid)
-        done = subprocess.run(self.command(key), env=words, stdout=subprocess.PIPE, stderr=subprocess.STDOUT,
-                              timeout=LIMIT, check=False)
+        done = subprocess.run(self.command(key), stdout=subprocess.PIPE, stderr=subprocess.STDOUT, timeout=LIMIT,
+                              check=False)
         expect_equal(done.returncode, status, "the status of %s (%s)" % (key, done.stdout.decode()))
         return done.stdout.decode()
 
-    def start(self):
-        self.run_command("ExecStartPre")
+    def launch(self):
+        """Starts the main process."""
         with open(os.path.join(self.folder, "told"), "ab") as told:
-            self.process = subprocess.Popen(self.command("ExecStart"), stderr=told, stdin=subprocess.DEVNULL)
-        self.run_command("ExecStartPost")
+            self.process = subprocess.Popen(self.command("ExecStart"), stderr=told, stdin=subprocess.DEVNULL,
+                                            env=self.manager.words, start_new_session=True)
+
+    def start(self):
+        """Starts it, and waits until it is ready."""
+        self.run_command("ExecStartPre")
+        self.launch()
+        self.manager.expect(["READY=1"])
+
+    def signal(self, number):
+        """What a manager does by default: all processes get the signal."""
+        os.killpg(self.process.pid, number)
 
     def stop(self):
-        """Stops it as a manager does, which signals what is left when the command has ended."""
-        waiting = threading.Thread(target=self.process.wait)
-        waiting.start()
-        self.run_command("ExecStop")
+        """Stops it as a manager does: by TERM."""
+        self.signal(signal.SIGTERM)
         expect_equal(self.process.wait(PATIENCE), 0, "the status of the gateway")
-        waiting.join()
 
     def send(self, name, count):
         with connect("unix:" + self.ports[name]) as connection:
@@ -227,19 +221,22 @@ class GatewayInstance:
             expect_equal(connection.recv(1), b"", "what a tenant's connection gives")
 
     def whys(self):
-        """Why each closed book was closed."""
-        with open(os.path.join(self.books, "books.csv"), encoding="ascii") as source:
-            return [line.split(",")[4] for line in source][1:]
+        """Why each closed book was closed. A row follows the reply, and the first one comes with its file."""
+        with contextlib.suppress(FileNotFoundError):
+            with open(os.path.join(self.books, "books.csv"), encoding="ascii") as source:
+                return [line.split(",")[4] for line in source if line.endswith("\n")][1:]
+        return []
 
     def close(self):
-        if self.process and self.process.poll() is None:
-            self.process.kill()
+        if self.process:
+            with contextlib.suppress(ProcessLookupError):
+                os.killpg(self.process.pid, signal.SIGKILL)
             self.process.wait()
 
 
 def gateway_starts_and_stops(run):
-    """A start is over once the gateway answers, a reload adds a tenant, and a stop sends what waits and closes the
-    book. The next start goes on, and a stop after the end of the process is no fault."""
+    """A gateway that is ready listens. A reload adds a tenant, by the unit's command and by HUP, and a stop sends what
+    waits and closes the book. The next start goes on."""
     far = run.far_end(keeps=False)
     instance = GatewayInstance(run, far)
     instance.start()
@@ -250,24 +247,28 @@ def gateway_starts_and_stops(run):
     expect_equal(instance.run_command("ExecReload"), "book 2\n", "what a reload prints")
     instance.ports["cone"] = os.path.join(instance.folder, "cone")
     instance.send("cone", 20)
+    instance.signal(signal.SIGHUP)
+    wait_for(lambda: instance.whys() == ["reload", "reload"], "a reload by HUP")
     instance.stop()
     expect_equal(far.frames(), 70, "frames at the far end")
-    expect_equal(instance.whys(), ["reload", "end"], "why books were closed")
+    expect_equal(instance.whys(), ["reload", "reload", "end"], "why books were closed")
+    instance.manager = run.keep(Manager(os.path.join(instance.folder, "again")))
     instance.start()
-    subprocess.run([PROGRAM, "ask", "unix:%s/uplink/control" % instance.folder, "end"], stdout=subprocess.DEVNULL,
-                   timeout=LIMIT, check=True)
-    expect_equal(instance.process.wait(PATIENCE), 0, "the status of the gateway")
-    instance.run_command("ExecStop")
-    expect_equal(instance.whys(), ["reload", "end", "end"], "why books were closed")
+    instance.stop()
+    expect_equal(instance.whys(), ["reload", "reload", "end", "end"], "why books were closed")
 
 
 def gateway_is_not_ready(run):
-    """A file with a fault starts nothing, and the start of a gateway that ends at once fails."""
+    """A file with a fault starts nothing. A gateway that ends at once says so, and is never ready."""
     instance = GatewayInstance(run, run.far_end(keeps=False))
     with open(instance.file, "a", encoding="utf-8") as file:
         file.write("[[tenant]]\n")
     expect("name" in instance.run_command("ExecStartPre", status=1), "the fault of the file")
-    instance.run_command("ExecStartPost", status=1)
+    instance.launch()
+    expect_equal(instance.process.wait(PATIENCE), 1, "the status of the gateway")
+    instance.manager.socket.settimeout(0)
+    with contextlib.suppress(BlockingIOError):
+        raise Failure("a notice: %s" % instance.manager.next())
 
 
 def analyzed(run):
@@ -279,6 +280,7 @@ def analyzed(run):
     for name, exposure in EXPOSURES.items():
         with open(os.path.join(FOLDER, name), encoding="utf-8") as source:
             text = source.read().replace(INSTALLED, FOLDER + "/").replace("/usr/bin/stridelink-", TOOLS + "/")
+        text = text.replace("/etc/stridelink/%i-devices", "/bin/true")
         unit = write(run.folder(), name.replace("@", "@one"), text.replace("/usr/bin/stridelink", PROGRAM))
         for words in (["verify", "--man=no", unit],
                       ["security", "--offline=true", "--threshold=%d" % exposure, unit]):

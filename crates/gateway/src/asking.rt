@@ -8,10 +8,11 @@ use share_billing::Shown;
 use share_gateway_words::AskOrders;
 use share_settings::Listener;
 use std::alloc::Global;
-use std::io::{BufReader, Eprint, Error, Print, Read, Write};
+use std::io::{BufReader, Eprint, Error, ErrorKind, Print, Read, Write};
 use std::net::{Net, SocketAddr, TcpStream};
 use std::os::unix::net::UnixStream;
 use std::process::ExitCode;
+use std::time::Duration;
 use std::{fmt, io};
 
 /// Why lines were not all answered.
@@ -33,17 +34,51 @@ fn is_of_connection(fault: AskFault) -> bool {
     matches!(fault, AskFault::Failed(_) | AskFault::Ended)
 }
 
-/// Why the lines to an address were not all answered.
+// Whether a fault is that no reply came in time.
+fn is_late(fault: AskFault) -> bool {
+    match fault {
+        AskFault::Failed(fault) => is_timeout(fault),
+        _ => false,
+    }
+}
+
+// A socket whose call has waited as long as it may is reported as one that is not ready.
+fn is_timeout(fault: Error) -> bool {
+    matches!(fault.kind(), ErrorKind::WouldBlock | ErrorKind::TimedOut)
+}
+
+/// Why the lines of a request were not all answered.
 #[derive(Clone, Copy, Debug)]
 struct AskLine<'a> {
-    address: &'a str,
+    orders: &'a AskOrders<'a>,
     fault: NotAsked,
+}
+
+/// The lines of a request, as the wait for a reply is reported.
+#[derive(Clone, Copy, Debug)]
+struct Lines<'a>(&'a [&'a str]);
+
+impl fmt::Display for Lines<'_> {
+    fn fmt<W: fmt::Write>(&self, f: &mut fmt::Formatter<W>) -> fmt::Result {
+        let count = self.0.len();
+        match self.0.first() {
+            Some(line) if count == 1 => write!(f, "the reply to {}", Shown(*line)),
+            _ => write!(f, "a reply to one of {count} lines"),
+        }
+    }
 }
 
 impl fmt::Display for AskLine<'_> {
     fn fmt<W: fmt::Write>(&self, f: &mut fmt::Formatter<W>) -> fmt::Result {
-        let address = Shown(self.address);
+        let (address, timeout) = (Shown(self.orders.address), self.orders.timeout);
         match self.fault {
+            NotAsked::NotConnected(fault) if is_timeout(fault) => {
+                write!(f, "cannot connect to {address}: no answer in {timeout} s")
+            }
+            NotAsked::Asked(fault) if is_late(fault) => {
+                let lines = Lines(self.orders.lines.as_slice());
+                write!(f, "{address}: waited {timeout} s for {lines}")
+            }
             NotAsked::NotConnected(fault) => write!(f, "cannot connect to {address}: {fault}"),
             NotAsked::Asked(fault) if is_of_connection(fault) => write!(f, "{address}: {fault}"),
             NotAsked::Asked(fault) => write!(f, "{fault}"),
@@ -74,11 +109,32 @@ fn ask_tcp<R: Net<Stream = TcpStream> + Print>(
     alloc: Global,
     lines: &[&str],
     address: SocketAddr,
+    timeout: Duration,
 ) -> Result<bool, NotAsked> {
-    match TcpStream::connect(rt, address) {
+    match connect(rt, address, timeout) {
         Ok(stream) => ask_on(rt, alloc, lines, &mut &stream, &stream),
         Err(fault) => Err(NotAsked::NotConnected(fault)),
     }
+}
+
+// A connection over TCP, of which a call waits no longer than this.
+fn connect<R: Net<Stream = TcpStream>>(
+    rt: &R,
+    address: SocketAddr,
+    timeout: Duration,
+) -> io::Result<TcpStream> {
+    let stream = TcpStream::connect_timeout(rt, &address, timeout)?;
+    stream.set_read_timeout(Some(timeout))?;
+    stream.set_write_timeout(Some(timeout))?;
+    Ok(stream)
+}
+
+// The same over a Unix socket.
+fn connect_unix(rt: &impl Net, path: &str, timeout: Duration) -> io::Result<UnixStream> {
+    let stream = UnixStream::connect(rt, path)?;
+    stream.set_read_timeout(Some(timeout))?;
+    stream.set_write_timeout(Some(timeout))?;
+    Ok(stream)
 }
 
 // Sends lines over a Unix socket, and prints the replies.
@@ -87,8 +143,9 @@ fn ask_unix<R: Net + Print>(
     alloc: Global,
     lines: &[&str],
     path: &str,
+    timeout: Duration,
 ) -> Result<bool, NotAsked> {
-    match UnixStream::connect(rt, path) {
+    match connect_unix(rt, path, timeout) {
         Ok(stream) => ask_on(rt, alloc, lines, &mut &stream, &stream),
         Err(fault) => Err(NotAsked::NotConnected(fault)),
     }
@@ -101,9 +158,10 @@ fn ask_at<R: Net<Stream = TcpStream> + Print>(
     orders: &AskOrders<'_>,
 ) -> Result<bool, NotAsked> {
     let lines = orders.lines.as_slice();
+    let timeout = Duration::from_secs(orders.timeout);
     match &orders.listener {
-        Listener::Tcp(address) => ask_tcp(rt, alloc, lines, *address),
-        Listener::Unix(path) => ask_unix(rt, alloc, lines, path.as_str()),
+        Listener::Tcp(address) => ask_tcp(rt, alloc, lines, *address, timeout),
+        Listener::Unix(path) => ask_unix(rt, alloc, lines, path.as_str(), timeout),
     }
 }
 
@@ -114,11 +172,14 @@ pub(crate) fn ask_given<R: Net<Stream = TcpStream> + Print + Eprint>(
     orders: AskOrders<'_>,
 ) -> ExitCode {
     let asked = ask_at(rt, alloc, &orders);
-    let address = orders.address;
-    drop(orders);
-    match asked {
+    let status = match asked {
         Ok(false) => ExitCode::SUCCESS,
         Ok(true) => ExitCode::FAILURE,
-        Err(fault) => fail(rt, AskLine { address, fault }),
-    }
+        Err(fault) => {
+            let orders = &orders;
+            fail(rt, AskLine { orders, fault })
+        }
+    };
+    drop(orders);
+    status
 }

@@ -56,6 +56,7 @@ fn rate(cell: u64, overhead: u64, price: u64) -> Rate
 fn billing_of<'a, 'b>(orders: &'b BillOrders<'a>) -> Billing<'a, 'b> {
     Billing {
         paths: orders.files.as_slice(),
+        extent: orders.extent,
         form: orders.form,
     }
 }
@@ -112,6 +113,7 @@ fn bill_by_rows<R: Files<File = File> + Print + Eprint>(
     let verified = VerifiedBilling {
         rows,
         paths: orders.files.as_slice(),
+        extent: orders.extent,
         form: orders.form,
     };
     let printed = print_verified_bill(rt, alloc, &verified);

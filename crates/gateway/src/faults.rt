@@ -1,6 +1,6 @@
 //! Why the folder of the books was not opened.
 
-use share_disk::{NotOpened, NotRecovered};
+use share_disk::{BookPlace, NoFlows, NotOpened, NotRecovered};
 use std::io::Error as IoError;
 use thiserror::Error;
 
@@ -13,14 +13,17 @@ pub(crate) enum NoFolder {
     NotFolder,
     #[error("{0}")]
     Failed(IoError),
-    /// The files of a book could not be recovered.
-    #[error("book {number}: {fault}")]
-    Book { number: u64, fault: IoError },
+    /// A book could not be recovered, since a call on this file failed.
+    #[error("{place}: {fault}")]
+    Book { place: BookPlace, fault: IoError },
     /// This line of `books.csv`, counted from 1, is no row.
     #[error("books.csv:{0}: not a row")]
     Row(u64),
     #[error("no number is left for a book")]
     NoNumber,
+    /// The numbers of names are not read, or not kept.
+    #[error("{0}")]
+    Flows(NoFlows),
 }
 
 impl From<NotOpened> for NoFolder {
@@ -37,7 +40,7 @@ impl From<NotRecovered> for NoFolder {
     fn from(reason: NotRecovered) -> NoFolder {
         match reason {
             NotRecovered::Failed(fault) => NoFolder::Failed(fault),
-            NotRecovered::Book { number, fault } => NoFolder::Book { number, fault },
+            NotRecovered::Book { place, fault } => NoFolder::Book { place, fault },
             NotRecovered::Line(number) => NoFolder::Row(number),
             NotRecovered::NoNumber => NoFolder::NoNumber,
         }

@@ -5,9 +5,11 @@
 mod asking;
 mod bills;
 mod faults;
+mod forgetting;
 mod recovery;
 mod refusing;
 mod serving;
+mod stack;
 mod streams;
 mod texts;
 

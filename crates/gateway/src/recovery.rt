@@ -23,6 +23,16 @@ impl Display for Done {
             Recovery::Closed => f.write_str("cut, and closed"),
             Recovery::Completed => f.write_str("its report and its row were written"),
             Recovery::Removed => f.write_str("removed, since it had no whole line"),
+            Recovery::NoBook => f.write_str("it had no text, so its row says none"),
+            Recovery::Unpriced => f.write_str(
+                "left as it is, since no file and no row has its tariffs",
+            ),
+            Recovery::NoText => f.write_str(
+                "left as it is, since its text is not here and it has no row",
+            ),
+            Recovery::NoRow => f.write_str(
+                "left as it is, since it has no row and a later book has one",
+            ),
             Recovery::SetAside(reason) => print_reason(f, reason),
         }
     }
@@ -32,7 +42,6 @@ impl Display for Done {
 fn print_reason<W: fmt::Write>(f: &mut Formatter<W>, reason: NoRun) -> fmt::Result {
     match reason {
         NoRun::SetAside => f.write_str("its row was written, and it is set aside"),
-        NoRun::NoTariffs => f.write_str("set aside, since it has no tariffs"),
         NoRun::Line { number, wrong } => {
             write!(f, "set aside, since line {number} is no run's: {wrong}")
         }
@@ -41,8 +50,11 @@ fn print_reason<W: fmt::Write>(f: &mut Formatter<W>, reason: NoRun) -> fmt::Resu
 
 fn kind_of(recovery: Recovery) -> Kind {
     match recovery {
-        Recovery::SetAside(_) => Kind::Bad,
-        Recovery::Closed | Recovery::Completed | Recovery::Removed => Kind::Recovered,
+        Recovery::SetAside(_) | Recovery::Unpriced | Recovery::NoText | Recovery::NoRow =>
+            Kind::Bad,
+        Recovery::Closed | Recovery::Completed | Recovery::Removed | Recovery::NoBook => {
+            Kind::Recovered
+        }
     }
 }
 
@@ -55,7 +67,28 @@ fn print_books<R: Clock + Eprint>(rt: &R, alloc: Global, books: &[RecoveredBook]
     messages.flush(rt);
 }
 
-/// Locks the folder and recovers its books. Prints a line for each book with which something was done.
+// The first book of a folder, with the numbers of the names there.
+fn flows_of<R: Files<File = File>>(
+    rt: &R,
+    alloc: Global,
+    folder: Folder,
+    number: u64,
+) -> Result<FirstBook, NoFolder> {
+    match folder.flows(rt, alloc) {
+        Ok(flows) => Ok(FirstBook {
+            folder,
+            number,
+            flows,
+        }),
+        Err(reason) => {
+            drop(folder);
+            Err(NoFolder::Flows(reason))
+        }
+    }
+}
+
+/// Locks the folder, recovers its books, and reads the numbers of names. Prints a line for each book with which
+/// something was done.
 pub(crate) fn open_books<R: Files<File = File> + Clock + Eprint>(
     rt: &R,
     alloc: Global,
@@ -68,7 +101,7 @@ pub(crate) fn open_books<R: Files<File = File> + Clock + Eprint>(
             print_books(rt, alloc, recovered.books.as_slice(), is_quiet);
             let number = recovered.next;
             drop(recovered);
-            Ok(FirstBook { folder, number })
+            flows_of(rt, alloc, folder, number)
         }
         Err(reason) => {
             drop(folder);

@@ -4,7 +4,7 @@ ghost use Rattle.std.specs.Process.{exit_status};
 
 use crate::faults::NoFolder;
 use share_billing::Shown;
-use share_loading::Refused;
+use share_loading::{NotTaken, Refused};
 use std::io::Eprint;
 use std::process::ExitCode;
 
@@ -30,5 +30,14 @@ pub(crate) fn refuse_folder(rt: &impl Eprint, path: &str, fault: NoFolder) -> Ex
 {
     let path = Shown(path);
     let _ = eprintln!(rt; "{path}: {fault}");
+    ExitCode::FAILURE
+}
+
+/// Prints why the tenants of a file have no numbers.
+pub(crate) fn refuse_numbers(rt: &impl Eprint, path: &str, why: &NotTaken) -> ExitCode
+    ensures { exit_status result ≡ 1 }
+{
+    let path = Shown(path);
+    let _ = eprintln!(rt; "{path}: {why}");
     ExitCode::FAILURE
 }

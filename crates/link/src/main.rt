@@ -30,6 +30,9 @@ use std::time::Clock;
 /// The program that runs scripts and bills books.
 const SCRIPTS: &str = "stridelink-script";
 
+/// The program that runs gateways, and asks them.
+const GATEWAYS: &str = "stridelink-gateway";
+
 // Serves the link that is asked for, and prints its faults.
 fn serve_given<'a, R, I>(rt: &'a R, alloc: Global, orders: ServeOrders<'_>, input: I) -> ExitCode
 where
@@ -58,6 +61,8 @@ fn main(rt: HostRuntime) -> ExitCode {
         Ok(Asked::Text(text)) => show(&rt, &text),
         Ok(Asked::Serve(orders)) => Ok(serve_given(&rt, rt.alloc(), orders, rt.reader())),
         Ok(Asked::Run(_)) => Ok(not_here(&rt, "run", SCRIPTS)),
+        Ok(Asked::Gateway) => Ok(not_here(&rt, "gateway", GATEWAYS)),
+        Ok(Asked::Ask) => Ok(not_here(&rt, "ask", GATEWAYS)),
         Ok(Asked::Bill(orders)) => {
             drop(orders);
             Ok(not_here(&rt, "bill", SCRIPTS))

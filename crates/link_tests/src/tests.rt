@@ -11,6 +11,7 @@ mod journal_memory;
 mod lines;
 mod made;
 mod memory;
+mod repairs;
 mod reports;
 mod script_faults;
 mod script_memory;

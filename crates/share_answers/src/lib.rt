@@ -7,4 +7,4 @@ mod status;
 mod web;
 
 pub use refusals::{refusal, refusal_at};
-pub use status::Parts;
+pub use status::{Parts, VERSION};

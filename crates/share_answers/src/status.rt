@@ -16,9 +16,10 @@ use share_uplink::{Uplink, UplinkState};
 use share_web::Exposition;
 use std::alloc::{AllocError, Global};
 
-/// The version of the program, and what it is proved with.
-const VERSION: &str = "0.1.0";
+/// The version of the program.
+pub const VERSION: &str = "0.1.0";
 
+/// What the program is proved with.
 const PROVED: &str = "rattle-kit-13b logic dac8208d650f15bf";
 
 /// The parts of a gateway that answers are about.

@@ -1,2 +1,3 @@
+pub mod PowerLemmas
 pub mod StepLemmas
 pub mod SettleLemmas

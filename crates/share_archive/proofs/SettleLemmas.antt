@@ -1,7 +1,7 @@
 -- The steps that were made of a book, of which something is known.
-use Rattle.std.proofs.Common.{◌≡◌, ◌≢◌, ◌⊎◌, ◌+◌, ◌≤◌, ℕ, inl, inr, Option, None, Some, Result, Ok, Err, arith, sym}
-use Rattle.std.proofs.Common.{subst, ◌∙◌, refl}
-use Rattle.std.specs.Prelude.{IfSome, IfOk, ⊤}
+use Rattle.std.proofs.Common.{◌≡◌, ◌⊎◌, ◌+◌, ◌≤◌, ℕ, inl, inr, Option, None, Some, arith, sym}
+use Rattle.std.proofs.Common.{subst, ◌∙◌}
+use Rattle.std.specs.Prelude.{IfSome, ⊤}
 use Rattle.std.specs.Option.{ForSome}
 use Rattle.std.proofs.lemmas.Option.{same_Some}
 use Rattle.share_archive.specs.Steps.{settled, after, cut_short, May, Reaches, began, whole, killed, steps_left}
@@ -14,7 +14,7 @@ use Rattle.share_archive.proofs.StepLemmas.{less, few}
 abbrev pub HasMade : Option BookState → Option BookState → ℕ → Type 0
 HasMade None new n = ⊤
 HasMade (Some from) None n = ⊥
-HasMade (Some from) (Some book) n = Reaches from book × (steps_left book + n ≤ 6)
+HasMade (Some from) (Some book) n = Reaches from book × (steps_left book + n ≤ 7)
 
 pub none_made : (known : Option BookState) → HasMade known known 0
 none_made None = tt
@@ -63,8 +63,8 @@ failed_step (Some from) (Some b) new step book n made seen may is =
     by_way (inr (inr done)) =
         subst (λ o. IfSome o (Reaches from)) (sym done) (whole b step made.0 (subst (May step) seen may))
 
--- no more than six steps are made
-pub too_many : (from known : Option BookState) (n : ℕ) → 7 ≤ n → HasMade from known n → IfSome from (λ _. ⊥)
+-- no more than seven steps are made
+pub too_many : (from known : Option BookState) (n : ℕ) → 8 ≤ n → HasMade from known n → IfSome from (λ _. ⊥)
 too_many None known n many made = tt
 too_many (Some from) None n many made = made
 too_many (Some from) (Some b) n many made = let left = made.1 in omega (arith, many, left)

@@ -6,6 +6,8 @@ mod laws;
 mod plan;
 mod settling;
 
-pub use laws::{books_come_to_rest, killed_books_come_to_the_same};
-pub use plan::{BookState, BookText, RowState, Step, next_step};
+pub use laws::{
+    books_come_to_rest, killed_books_come_to_the_same, losses_of_power_take_no_closed_text,
+};
+pub use plan::{BookState, BookText, Durability, RowState, Step, next_step};
 pub use settling::{BookFiles, Unsettled, settle};

@@ -6,8 +6,8 @@ ghost use Rattle.share_archive.specs.declared.settling.Unsettled.TheVariants.{Ch
 use crate::plan::{BookState, Step, next_step};
 use std::io;
 
-/// The most times that the files are looked at: a book needs at most six steps.
-const MOST_LOOKS: usize = 7;
+/// The most times that the files are looked at: a book needs at most seven steps.
+const MOST_LOOKS: usize = 8;
 
 /// The files of a book. `known` is what contracts know of them: `None` if that is nothing, as of files of the system.
 pub trait BookFiles {

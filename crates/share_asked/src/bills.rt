@@ -3,7 +3,7 @@ ghost use Rattle.std.specs.Prelude.{IfOk, IsOkAnd, MatchResult, ◌≡◌};
 ghost use Rattle.std.specs.Process.{exit_status};
 
 use crate::tariffs::PlainTariffs;
-use share_billing::{Billing, NotShown, print_bill};
+use share_billing::{Billing, Extent, NotShown, print_bill};
 use share_script::ScriptFault;
 use share_words::BillOrders;
 use std::alloc::Global;
@@ -19,6 +19,7 @@ pub fn bill_given<R: Files + Print + Eprint>(
 ) -> Result<ExitCode, ScriptFault> {
     let billing = Billing {
         paths: orders.files.as_slice(),
+        extent: Extent::Whole,
         form: orders.form,
     };
     let printed = print_bill(rt, alloc, PlainTariffs, &billing);

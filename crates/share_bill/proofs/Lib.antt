@@ -1,6 +1,7 @@
 pub mod LineLemmas
 pub mod MakingLemmas
 pub mod OneBillLemmas
+pub mod RepairLemmas
 pub mod RowLemmas
 pub mod RunLemmas
 pub mod SeenLemmas

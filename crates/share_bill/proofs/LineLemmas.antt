@@ -13,6 +13,7 @@ use Rattle.share_bill.specs.declared.bill.making.Made.{Made}
 use Rattle.share_bill.specs.declared.bill.running.TenantFlow.{TenantFlow}
 use Rattle.share_bill.specs.declared.bill.sums.Sums.{Sums}
 use Rattle.share_bill.specs.BookLines.{book_reading, event_by, event_of, next_event, ReadsOrLacks}
+use Rattle.share_bill.specs.Repairs.{HasRowsOf, KeepsParts, SameRows}
 use Rattle.share_bill.specs.Makings.{BillView, KeepsMade, MakesLine, IsFault, ObeysLine, TakesLine, is_memory, unread}
 
 -- bytes that are read as a line spell that one
@@ -80,3 +81,32 @@ module _ {A W : Type 0} (old new : LinkView W) (line : Line) (made : Made) (tena
   line-kept (Ok done) makes keeps lacks = record { made = made; makes = makes; keeps = keeps }
   line-kept (Err fault) makes keeps lacks =
       subst (λ (f : LineFault). IsFault (event_of old.live line) f) (sym lacks) tt
+
+-- The bill after a line that is wrong
+
+-- nothing changed
+pub parts-same : (fault : LineFault) (tenants : List TenantFlow) (sent : List Sums)
+    → KeepsParts fault tenants sent tenants sent
+parts-same NoMemory tenants sent = tt
+parts-same (WrongLine why) tenants sent = (refl, refl)
+
+-- a fault that says that memory was refused
+pub parts-lack : {A : Type 0} (r : Result A LineFault) (tenants now_tenants : List TenantFlow)
+    (sent now_sent : List Sums) → IfErr r (λ fault. fault ≡ NoMemory)
+    → IfErr r (λ fault. KeepsParts fault tenants sent now_tenants now_sent)
+parts-lack (Ok done) tenants now_tenants sent now_sent lacks = tt
+parts-lack (Err fault) tenants now_tenants sent now_sent lacks =
+    subst (λ (f : LineFault). KeepsParts f tenants sent now_tenants now_sent) (sym lacks) tt
+
+pub rows-same : {W : Type 0} (fault : LineFault) (seen old : BillView W) → seen ≡ old → HasRowsOf fault old seen
+rows-same NoMemory seen old same = tt
+rows-same (WrongLine why) seen old same =
+    subst (λ (b : BillView _). SameRows b seen) same record { kind = refl; tenants = refl; sent = refl }
+
+pub rows-kept : {A W : Type 0} (new seen old : BillView W) (r : Result A LineFault) → seen ≡ old
+    → new.kind ≡ seen.kind → IfErr r (λ fault. KeepsParts fault seen.tenants seen.sent new.tenants new.sent)
+    → IfErr r (λ fault. HasRowsOf fault old new)
+rows-kept new seen old (Ok done) same kind kept = tt
+rows-kept new seen old (Err NoMemory) same kind kept = tt
+rows-kept new seen old (Err (WrongLine why)) same kind kept =
+    subst (λ (b : BillView _). SameRows b new) same record { kind = kind; tenants = kept.0; sent = kept.1 }

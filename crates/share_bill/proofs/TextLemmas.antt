@@ -25,7 +25,7 @@ use Rattle.share_base.specs.declared.version.Version.TheVariants.{Two}
 use Rattle.share_model.specs.declared.rates.Rate.{Rate}
 use Rattle.share_model.specs.link.Tariff.{AreInRange}
 use Rattle.share_model.specs.run.Events.{MayFollow}
-use Rattle.share_model.specs.run.Fold.{State, empty_state, step, state_after}
+use Rattle.share_model.specs.run.Fold.{State, empty_state, run, step, state_after}
 use Rattle.share_model.specs.run.Sound.{max_life}
 use Rattle.share_model.proofs.lemmas.lists.FirstItemLemmas.{each-append}
 use Rattle.share_model.proofs.lemmas.run.EventLemmas.{events-after}
@@ -39,14 +39,15 @@ use Rattle.share_bill.specs.declared.bill.text.BookBill.{BookBill}
 use Rattle.share_bill.specs.declared.bill.text.Next.TheVariants.{Line as NextLine, Long as NextLong, End as NextEnd}
 use Rattle.share_bill.specs.declared.bill.text.NotBilled.{NotBilled}
 use Rattle.share_bill.specs.declared.bill.text.NotBilled.TheVariants.{Input, NoMemory, Line as LineFault}
-use Rattle.share_bill.specs.Bills.{AreEvents, row_with, rows_of}
+use Rattle.share_bill.specs.Bills.{AreEvents, row_with}
 use Rattle.share_bill.specs.BookLines.{first_line, kind_of, next_event}
 use Rattle.share_bill.specs.Makings.{BillView, IsBookLink, TakesLine}
+use Rattle.share_bill.specs.Repairs.{SameRows, StopsAt, StopsBy}
 use Rattle.share_bill.specs.Runs.{IsBillOf}
 use Rattle.share_bill.specs.Sums.{sums_at}
 use Rattle.share_bill.specs.Texts.{fed, text_of, next_number, cut_of, BeginsAsBook, IsBook, IsRunText, IsWrongText}
 use Rattle.share_bill.specs.Texts.{IsFirstWrong, IsNoFirst, other_first, first_long, no_first}
-use Rattle.share_bill.specs.Texts.{IsLongNext, IsAhead, IsAt, HasReadAt, EndsAfter, InputFails}
+use Rattle.share_bill.specs.Texts.{IsLongNext, IsWrongNext, IsAhead, IsAt, HasReadAt, EndsAfter, InputFails}
 use Rattle.share_bill.specs.Texts.{PassesLine, TakesLines, TakesAll, IsFirstFault, IsTextFault}
 use Rattle.share_bill.specs.Texts.{read_failed, Bills}
 use Rattle.share_bill.proofs.RunLemmas.{bill-more, rows-are}
@@ -437,10 +438,11 @@ module _ {R : Type 0} (left : R → Option (List ℕ)) (gives : R → List ℕ �
         passes.2;
   }
 
-  begins : (bill : BillView W) (c : Connection R) (number : ℕ)
-      (was : TakesLines left gives first rates bill c number) (bytes rest : List ℕ)
-      → bytes ≡ text_of bill.kind was.lines ++ rest → BeginsAsBook rates bytes bill.kind
-  begins bill c number was bytes rest is = record {
+  -- the text begins with the lines that were taken
+  pub begins : (bill : BillView W) (number : ℕ) (wrong : Wrong)
+      (was : StopsAt left gives first rates bill number wrong) (bytes rest : List ℕ)
+      → bytes ≡ text_of was.was.kind was.lines ++ rest → BeginsAsBook rates bytes was.was.kind
+  begins bill number wrong was bytes rest is = record {
     lines = was.lines;
     events = was.events;
     rest = rest;
@@ -450,46 +452,77 @@ module _ {R : Type 0} (left : R → Option (List ℕ)) (gives : R → List ℕ �
     may = was.bill_is.may;
   }
 
-  pub line-wrong : (bill : BillView W) (before after : Connection R) (number : ℕ) (wrong : Wrong)
+  stopped_text : (start : Option (List ℕ)) (bill : BillView W) (number : ℕ) (wrong : Wrong)
+      (was : StopsAt left gives first rates bill number wrong)
+      → IfSome start (λ bytes. (rest : List ℕ) × (bytes ≡ text_of was.was.kind was.lines ++ rest)
+      × IsWrongNext was.was.kind (run Two rates was.events).live rest wrong)
+      → IfSome start (λ bytes. IsWrongText rates bytes number wrong)
+  unfolding begins
+  stopped_text None bill number wrong was next = tt
+  stopped_text (Some bytes) bill number wrong was next = inr record {
+    kind = was.was.kind;
+    book = begins bill number wrong was bytes next.0 next.1;
+    number_is = was.number_is;
+    next_is = next.2;
+  }
+
+  -- a text whose lines stop has no bill
+  pub stops-fault : (bill : BillView W) (fault : NotBilled) → StopsBy left gives first rates bill fault
+      → IsTextFault left gives first rates fault
+  stops-fault bill Input stops = stops
+  stops-fault bill NoMemory stops = tt
+  stops-fault bill (LineFault number wrong) stops = stopped_text (left first) bill number wrong stops stops.next
+
+  pub line-wrong : (bill new : BillView W) (before after : Connection R) (number : ℕ) (wrong : Wrong)
       (was : TakesLines left gives first rates bill before number)
       → PassesLine left gives first (text_of bill.kind was.lines) NextLine after
-      → next_event bill.kind bill.link.live after.line ≡ Err wrong
-      → IsTextFault left gives first rates (LineFault number wrong)
-  unfolding begins
-  line-wrong bill before after number wrong was passes is =
+      → next_event bill.kind bill.link.live after.line ≡ Err wrong → SameRows bill new
+      → StopsAt left gives first rates new number wrong
+  line-wrong bill new before after number wrong was passes is same =
       let passed = text_of bill.kind was.lines in
-      at-text left gives first (passed ++ fed after.line) after
-      (λ bytes. IsWrongText rates bytes number wrong) passes.2
-      (λ rest. inr record {
-        kind = bill.kind;
-        book = begins bill before number was ((passed ++ fed after.line) ++ rest) (fed after.line ++ rest)
-            (append_assoc passed (fed after.line) rest);
+      record {
+        lines = was.lines;
+        events = was.events;
+        was = bill;
+        bill_is = was.bill_is;
+        rows = same;
+        clean = was.clean;
         number_is = was.number_is;
-        next_is = inr (
-          after.line,
-          record { more = rest; is = refl; clean = passes.0; few = passes.1 },
-          subst (λ l. next_event bill.kind l after.line ≡ Err wrong) was.bill_is.live is,
-        );
-      })
+        next = at-text left gives first (passed ++ fed after.line) after
+            (λ bytes. (rest : List ℕ) × (bytes ≡ passed ++ rest)
+            × IsWrongNext bill.kind (run Two rates was.events).live rest wrong) passes.2
+            (λ rest. (
+              fed after.line ++ rest,
+              append_assoc passed (fed after.line) rest,
+              inr (
+                after.line,
+                record { more = rest; is = refl; clean = passes.0; few = passes.1 },
+                subst (λ l. next_event bill.kind l after.line ≡ Err wrong) was.bill_is.live is,
+              ),
+            ));
+      }
 
-  long_text : (start : Option (List ℕ)) (bill : BillView W) (c : Connection R) (number : ℕ)
-      (was : TakesLines left gives first rates bill c number)
-      → IfSome start (λ bytes. (rest : List ℕ) × (bytes ≡ text_of bill.kind was.lines ++ rest) × IsLongNext rest)
-      → IfSome start (λ bytes. IsWrongText rates bytes number Long)
-  unfolding begins
-  long_text None bill c number was long = tt
-  long_text (Some bytes) bill c number was long = inr record {
-    kind = bill.kind;
-    book = begins bill c number was bytes long.0 long.1;
-    number_is = was.number_is;
-    next_is = inl (long.2, refl);
-  }
+  long_next : (start : Option (List ℕ)) (bill : BillView W) (events : List Event) (passed : List ℕ)
+      → IfSome start (λ bytes. (rest : List ℕ) × (bytes ≡ passed ++ rest) × IsLongNext rest)
+      → IfSome start (λ bytes. (rest : List ℕ) × (bytes ≡ passed ++ rest)
+      × IsWrongNext bill.kind (run Two rates events).live rest Long)
+  long_next None bill events passed long = tt
+  long_next (Some bytes) bill events passed long = (long.0, long.1, inl (long.2, refl))
 
   pub line-long : (bill : BillView W) (before after : Connection R) (number : ℕ)
       (was : TakesLines left gives first rates bill before number)
       → PassesLine left gives first (text_of bill.kind was.lines) NextLong after
-      → IsTextFault left gives first rates (LineFault number Long)
-  line-long bill before after number was passes = long_text (left first) bill before number was passes
+      → StopsAt left gives first rates bill number Long
+  line-long bill before after number was passes = record {
+    lines = was.lines;
+    events = was.events;
+    was = bill;
+    bill_is = was.bill_is;
+    rows = record { kind = refl; tenants = refl; sent = refl };
+    clean = was.clean;
+    number_is = was.number_is;
+    next = long_next (left first) bill was.events (text_of bill.kind was.lines) passes;
+  }
 
   pub lines-end : (bill : BillView W) (before after : Connection R) (number : ℕ)
       (was : TakesLines left gives first rates bill before number)

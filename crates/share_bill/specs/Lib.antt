@@ -2,6 +2,7 @@ pub mod Bills
 pub mod BookLines
 pub mod Discard
 pub mod Makings
+pub mod Repairs
 pub mod Runs
 pub mod Seen
 pub mod Sums

@@ -5,7 +5,7 @@ mod bill;
 mod laws;
 
 pub use bill::{
-    Bill, BookBill, Discard, Figures, Kind, LineFault, NotBilled, TenantBill, TenantTotal, TextRun,
-    Wrong, add_rows, bill_text, run_text,
+    Bill, BookBill, Discard, Figures, Kind, LineFault, NotBilled, RepairedBill, TenantBill,
+    TenantTotal, TextEnd, TextRun, Wrong, add_rows, bill_text, repair_text, run_text,
 };
 pub use laws::{bills_are_sums, lengths_decide, texts_have_one_bill};

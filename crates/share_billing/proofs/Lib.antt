@@ -1,1 +1,4 @@
+pub mod GivenLemmas
+pub mod IndexLemmas
+pub mod SumLemmas
 pub mod TextLemmas

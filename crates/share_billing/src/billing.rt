@@ -1,112 +1,121 @@
-//! The bill of several files.
+//! The bill of several files under the same tariffs.
+ghost use Rattle.std.specs.Prelude.{◌≡◌, IsSomeAnd, length, MatchResult, slice_get};
+ghost use Rattle.share_billing.specs.Given.{IsBillOf, IsUnbilled};
+ghost use Rattle.share_billing.specs.Printed.{PrintsBill};
 
-use crate::book_file::BookFile;
-use crate::faults::{BookFault, CutLine, FaultLine};
-use crate::printing::{Form, shown};
-use share_bill::{BookBill, NotBilled, TenantTotal, add_rows, bill_text};
-use share_model::{PatientWriter, PlainWriter, Rates, put};
-use std::alloc::{AllocError, Global};
-use std::cell::Cell;
+use crate::billed::{BilledText, Extent, bill_open};
+use crate::biller::{Biller, NotShown, print_books};
+use crate::faults::{BookFault, say_fault, say_remark};
+use crate::files::{SystemFiles, TextFiles};
+use crate::printing::Form;
+use share_bill::TenantBill;
+use share_model::{PatientWriter, PlainWriter, Rates, TellingWriter};
+use std::alloc::Global;
 use std::fs::Files;
+use std::io;
 use std::io::{Eprint, Print};
-use std::{fs, io};
 
 /// The books that are billed, and the form of the bill.
 #[derive(Clone, Copy, Debug)]
 pub struct Billing<'a, 'b> {
     /// The files of their texts.
     pub paths: &'b [&'a str],
+    /// The part of each text that is billed.
+    pub extent: Extent,
     pub form: Form,
 }
 
-/// Why no bill was printed.
-#[derive(Clone, Copy, Debug, PartialEq, Eq)]
-pub enum NotShown {
-    /// A book has none, and standard error says why.
-    Book,
-    /// Memory was refused.
-    NoMemory,
-    /// The output could not be written.
-    Output,
-}
-
-// The bill of the book in a file.
-fn bill_file<R: Files, S: Rates + Drop>(
-    files: &R,
+// The bill of the text at a path.
+fn bill_file<F: TextFiles, S: Rates + Drop>(
+    files: &F,
     alloc: Global,
     shelf: S,
+    extent: Extent,
     path: &str,
-) -> Result<BookBill, BookFault> {
-    let fault = Cell::new(None);
-    let file = match fs::open(files, path) {
-        Ok(file) => file,
+) -> Result<BilledText, BookFault>
+    ensures { MatchResult result
+        (λ billed. IsBillOf (F.opens files.now path.now) F.Text.remaining extent (S.rates shelf) billed.rows.items)
+        (λ _. IsUnbilled (F.opens files.now path.now) (F.fails files.now path.now) F.Text.remaining extent
+        (S.rates shelf)) }
+{
+    match files.open(path) {
+        Ok(text) => bill_open(alloc, shelf, extent, text),
         Err(error) => {
             drop(shelf);
-            return Err(BookFault::File(error));
+            Err(BookFault::File(error))
         }
-    };
-    let text = BookFile {
-        file,
-        fault: &fault,
-    };
-    match bill_text(alloc, shelf, text) {
-        Ok(bill) => Ok(bill),
-        Err(reason) => Err(fault_of(fault.get(), reason)),
     }
 }
 
-// Why a book has no bill: the reason of a read that failed, if there is one.
-fn fault_of(read: Option<io::Error>, reason: NotBilled) -> BookFault {
-    match read {
-        Some(error) => BookFault::File(error),
-        None => BookFault::Text(reason),
-    }
-}
-
-// Adds the bill of a file to the totals, and says whether it has one. If it has none, or ends in a line that was cut,
-// standard error says so.
-fn add_file<R: Files + Eprint, S: Rates + Drop>(
-    rt: &R,
-    alloc: Global,
+/// Books in files under the same tariffs. Standard error says what is wrong with one.
+#[derive(Drop)]
+struct PlainBooks<'a, 'b, R, F, S> {
+    rt: &'b R,
+    files: &'b F,
     shelf: S,
-    path: &str,
-    totals: &mut Vec<TenantTotal>,
-) -> Result<bool, AllocError> {
-    match bill_file(rt, alloc, shelf, path) {
-        Ok(bill) => {
-            if let Some(number) = bill.cut {
-                let cut = CutLine { path, number };
-                let _ = eprintln!(rt; "{cut}");
+    paths: &'b [&'a str],
+    extent: Extent,
+}
+
+impl<'a, 'b, R: Eprint, F: TextFiles, S: Rates + Copy + Drop> Biller
+    for PlainBooks<'a, 'b, R, F, S> {
+    ghost use Rattle.std.specs.Prelude.{length, slice_get, IsSomeAnd};
+    ghost use Rattle.share_billing.specs.Given.{IsBillOf, IsUnbilled};
+
+    ghost count = { λ books. length books.paths.now };
+
+    ghost bills = { λ books index rows. IsSomeAnd (slice_get books.paths.now index) (λ path.
+        IsBillOf (F.opens books.files.now path.now) F.Text.remaining books.extent (S.rates books.shelf) rows) };
+
+    ghost refuses = { λ books index. IsSomeAnd (slice_get books.paths.now index) (λ path.
+        IsUnbilled (F.opens books.files.now path.now) (F.fails books.files.now path.now) F.Text.remaining books.extent
+        (S.rates books.shelf)) };
+
+    fn count(&self) -> usize {
+        self.paths.len()
+    }
+
+    fn bill(&self, alloc: Global, index: usize) -> Result<Vec<TenantBill>, NotShown> {
+        let path = self.paths[index];
+        match bill_file(self.files, alloc, self.shelf, self.extent, path) {
+            Ok(billed) => {
+                say_remark(self.rt, path, billed.remark);
+                Ok(billed.rows)
             }
-            let added = add_rows(totals, bill.rows.as_slice());
-            drop(bill);
-            added?;
-            Ok(true)
-        }
-        Err(fault) => {
-            // The status says so even if standard error takes no text.
-            let line = FaultLine { path, fault };
-            let _ = eprintln!(rt; "{line}");
-            Ok(false)
+            Err(fault) => {
+                say_fault(self.rt, path, fault);
+                Err(NotShown::Book)
+            }
         }
     }
 }
 
-// Adds the bill of each file to the totals, and says whether all of them have one.
-fn add_files<R: Files + Eprint, S: Rates + Copy + Drop>(
+/// Writes the bill of these books, under these tariffs, summed by tenant. If one of them has none, nothing is written,
+/// and standard error has a line for each such book.
+pub fn write_bill<R: Eprint, F: TextFiles, S: Rates + Copy + Drop, V: TellingWriter>(
     rt: &R,
     alloc: Global,
+    files: &F,
     shelf: S,
-    paths: &[&str],
-    totals: &mut Vec<TenantTotal>,
-) -> Result<bool, AllocError> {
-    let mut is_whole = true;
-    for path in paths {
-        if !add_file(rt, alloc, shelf, path, totals)? {
-            is_whole = false;
-        }
-    }
-    Ok(is_whole)
+    billing: &Billing<'_, '_>,
+    output: &mut V,
+) -> Result<(), NotShown>
+    ensures { PrintsBill
+        (λ index rows. IsSomeAnd (slice_get billing.now.paths.now index) (λ path.
+        IsBillOf (F.opens files.now path.now) F.Text.remaining billing.now.extent (S.rates shelf) rows))
+        (λ index. IsSomeAnd (slice_get billing.now.paths.now index) (λ path.
+        IsUnbilled (F.opens files.now path.now) (F.fails files.now path.now) F.Text.remaining billing.now.extent
+        (S.rates shelf)))
+        (length billing.now.paths.now) billing.now.form V.told V.answers output.old output.new result }
+{
+    let books = PlainBooks {
+        rt,
+        files,
+        shelf,
+        paths: billing.paths,
+        extent: billing.extent,
+    };
+    print_books(&books, alloc, billing.form, output)
 }
 
 /// Prints the bill of these books, under these tariffs, summed by tenant. If one of them has none, nothing is printed,
@@ -117,20 +126,6 @@ pub fn print_bill<R: Files + Print + Eprint, S: Rates + Copy + Drop>(
     shelf: S,
     billing: &Billing<'_, '_>,
 ) -> Result<(), NotShown> {
-    let mut totals = Vec::new(alloc);
-    let Ok(is_whole) = add_files(rt, alloc, shelf, billing.paths, &mut totals) else {
-        return Err(NotShown::NoMemory);
-    };
-    if !is_whole {
-        return Err(NotShown::Book);
-    }
-    let books = billing.paths.len() as u64;
-    let Ok(text) = shown(alloc, billing.form, books, totals.as_slice()) else {
-        return Err(NotShown::NoMemory);
-    };
     let mut output = PatientWriter(PlainWriter(io::writer(rt)));
-    match put(&mut output, text.as_slice()) {
-        Ok(()) => Ok(()),
-        Err(_) => Err(NotShown::Output),
-    }
+    write_bill(rt, alloc, &SystemFiles(rt), shelf, billing, &mut output)
 }

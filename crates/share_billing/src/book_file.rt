@@ -3,21 +3,38 @@
 use share_model::{Got, TellingReader};
 use std::cell::Cell;
 use std::io::{Error, ErrorKind, Read};
+use std::marker::Model;
 
-/// A file that is read, and where the reason goes if a read fails.
+/// A file that is read, and where the reason goes if a read fails. A contract sees the file.
 #[derive(Drop)]
 pub(crate) struct BookFile<'a, F> {
-    pub(crate) file: F,
-    pub(crate) fault: &'a Cell<Option<Error>>,
+    file: F,
+    fault: &'a Cell<Option<Error>>,
+}
+
+impl<'a, F> Model for BookFile<'a, F> {
+    ghost Value = { F };
+
+    ghost view = { λ reader. reader.file };
+}
+
+impl<'a, F: Read> BookFile<'a, F> {
+    ghost use Rattle.std.specs.Prelude.{◌≡◌};
+
+    /// A reader of the file.
+    pub(crate) fn of(file: F, fault: &'a Cell<Option<Error>>) -> BookFile<'a, F>
+        ensures { result ≡ file }
+    {
+        BookFile { file, fault }
+    }
 }
 
 impl<'a, F: Read> TellingReader for BookFile<'a, F> {
-    ghost use Rattle.share_model.specs.io.Given.{Gives};
+    ghost use Rattle.share_billing.specs.Given.{gives_by};
 
-    ghost left = { λ reader. F.remaining reader.file };
+    ghost left = { F.remaining };
 
-    ghost gives = { λ before buffer got after.
-        Gives (F.remaining before.file) buffer got (F.remaining after.file) };
+    ghost gives = { gives_by F.remaining };
 
     ghost tells = { λ before buffer got after given. given };
 

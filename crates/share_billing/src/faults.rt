@@ -3,11 +3,11 @@
 use share_bill::{NotBilled, Wrong};
 use std::fmt;
 use std::fmt::{Display, Formatter};
-use std::io::Error;
+use std::io::{Eprint, Error};
 
 /// Why a book has no bill.
 #[derive(Clone, Copy, Debug)]
-pub(crate) enum BookFault {
+pub enum BookFault {
     /// Its file could not be opened or read, for this reason.
     File(Error),
     /// Its text has no bill.
@@ -69,4 +69,60 @@ impl<'a> Display for CutLine<'a> {
             "{path}:{number}: the last line has no line feed, and is left out"
         )
     }
+}
+
+/// What standard error says of a text that is billed.
+#[derive(Clone, Copy, Debug, PartialEq, Eq)]
+pub enum Remark {
+    None,
+    /// The last line, which has this number, has no line feed.
+    Cut(u64),
+    /// The line of this number is not the next one of a book, and the lines before it are billed.
+    Ends { number: u64, wrong: Wrong },
+}
+
+// The line on standard error for a text whose beginning is billed.
+#[derive(Clone, Copy, Debug)]
+struct EndLine<'a> {
+    path: &'a str,
+    number: u64,
+    wrong: Wrong,
+}
+
+impl<'a> Display for EndLine<'a> {
+    fn fmt<W: fmt::Write>(&self, f: &mut Formatter<W>) -> fmt::Result {
+        let EndLine {
+            path,
+            number,
+            wrong,
+        } = *self;
+        let path = Shown(path);
+        let billed = number.saturating_sub(1);
+        write!(f, "{path}:{number}: {wrong}; lines billed: {billed}")
+    }
+}
+
+/// Prints what is to be said of a text that is billed, if something is.
+pub fn say_remark(rt: &impl Eprint, path: &str, remark: Remark) {
+    match remark {
+        Remark::None => {}
+        Remark::Cut(number) => {
+            let cut = CutLine { path, number };
+            let _ = eprintln!(rt; "{cut}");
+        }
+        Remark::Ends { number, wrong } => {
+            let end = EndLine {
+                path,
+                number,
+                wrong,
+            };
+            let _ = eprintln!(rt; "{end}");
+        }
+    }
+}
+
+/// Prints why a book has no bill. The status says so even if standard error takes no text.
+pub(crate) fn say_fault(rt: &impl Eprint, path: &str, fault: BookFault) {
+    let line = FaultLine { path, fault };
+    let _ = eprintln!(rt; "{line}");
 }

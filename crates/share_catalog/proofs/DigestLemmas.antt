@@ -1,5 +1,5 @@
 -- The hexadecimal digits of bytes are the digits of a digest.
-use Rattle.std.proofs.Common.{◌≡◌, ◌<◌, ◌≤◌, ◌+◌, ◌*◌, ◌/◌, ◌%◌, ◌^◌, ℕ, zero, suc, Bool, true, List, [], ◌∷◌, arith}
+use Rattle.std.proofs.Common.{◌≡◌, ◌<◌, ◌/◌, ◌%◌, ℕ, zero, suc, Bool, true, List, [], ◌∷◌, arith}
 use Rattle.std.proofs.Common.{refl, inl, inr, length}
 use Rattle.std.proofs.Common.{Fits, w8}
 use Rattle.std.specs.Prelude.{◌&&◌, slice_index, get_or}
@@ -7,7 +7,7 @@ use Rattle.std.specs.List.{list_all}
 use Rattle.std.proofs.lemmas.Bool.{and_parts, cases_lt}
 use Rattle.hex.specs.Hex.{encode_lower, encode_with, lower_digits}
 use Rattle.hex.proofs.HexLemmas.{length-encode_with}
-use Rattle.share_catalog.specs.Texts.{is_hex_digit, is_digest, IsDigest}
+use Rattle.share_catalog.specs.Texts.{is_hex_digit, IsDigest}
 
 -- the first places of the table pass
 abbrev all_hex : ℕ → Bool

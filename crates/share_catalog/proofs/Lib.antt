@@ -1,4 +1,6 @@
+pub mod BeginningLemmas
 pub mod DigestLemmas
+pub mod FlowRowLemmas
 pub mod BilledLemmas
 pub mod NameLemmas
 pub mod NumberLemmas

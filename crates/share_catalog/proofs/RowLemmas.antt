@@ -16,7 +16,7 @@ use Rattle.share_catalog.specs.declared.kinds.TextKind.{TextKind}
 use Rattle.share_catalog.specs.declared.kinds.TextKind.TheVariants.{Whole, Lengths}
 use Rattle.share_catalog.specs.declared.kinds.Closing.{Closing}
 use Rattle.share_catalog.specs.declared.kinds.Closing.TheVariants.{Spent, Period, Reload, Rotate, End as Ended, Cut}
-use Rattle.share_catalog.specs.declared.kinds.Closing.TheVariants.{Bad}
+use Rattle.share_catalog.specs.declared.kinds.Closing.TheVariants.{Bad, NoBook}
 use Rattle.share_catalog.specs.declared.row.Row.{Row}
 use Rattle.share_catalog.specs.declared.row.Totals.{Totals}
 use Rattle.share_catalog.specs.declared.row.Column.{Column}
@@ -41,6 +41,7 @@ no_comma-closing Rotate = (refl, (refl, (refl, (refl, (refl, (refl, tt))))))
 no_comma-closing Ended = (refl, (refl, (refl, tt)))
 no_comma-closing Cut = (refl, (refl, (refl, tt)))
 no_comma-closing Bad = (refl, (refl, (refl, tt)))
+no_comma-closing NoBook = (refl, (refl, (refl, (refl, tt))))
 
 no_comma_hex : (c : ℕ) → is_hex_digit c ≡ true → eqb c 44 ≡ false
 no_comma_hex c h = grind (arith, nat_tests)

@@ -1,6 +1,7 @@
 -- Tariffs are read from the text that spells them.
 use Rattle.std.proofs.Common.{◌≡◌, ◌≢◌, ◌<◌, ◌≤◌, ◌+◌, ◌^◌, ℕ, Bool, true, false, List, [], ◌∷◌, ◌++◌}
-use Rattle.std.proofs.Common.{length, map, nat_le, nat_eq, take, get_or, zero, suc, decimal, arith, sym, ◌∙◌, ap, refl}
+use Rattle.std.proofs.Common.{length, map, eqb, nat_le, nat_eq, take, get_or, zero, suc, decimal}
+use Rattle.std.proofs.Common.{arith, sym, ◌∙◌, ap, refl}
 use Rattle.std.proofs.Common.{append_assoc, append-nil, length-append}
 use Rattle.std.specs.List.{join_with_byte, list_all, AllByRecursion}
 use Rattle.std.proofs.Math.Seq.{take-suc}
@@ -268,14 +269,21 @@ pub not_added : (n : ℕ) (A : Type 0) (r : Bool) → ((n < 8) × A → r ≡ tr
 not_added n A r test fit refused =
     let many : (n < 8 → ⊥) = λ h. let yes = test (h, fit) in cc in omega arith
 
-no_comma_more : (t : BookTariff) (ts : List BookTariff) → list_all is_tariff (t ∷ ts) ≡ true
-    → NoByte 44 (tariffs_text (t ∷ ts))
-no_comma_more t [] h = no_byte-tariff 44 t (omega arith) (and_parts _ _ h).0
-no_comma_more t (u ∷ us) h =
-    no_byte-append 44 (tariff_text t) (32 ∷ tariffs_text (u ∷ us))
-    (no_byte-tariff 44 t (omega arith) (and_parts _ _ h).0) (refl, no_comma_more u us (and_parts _ _ h).1)
+no_byte_more : (c : ℕ) (t : BookTariff) (ts : List BookTariff) → c < 47 → eqb 32 c ≡ false
+    → list_all is_tariff (t ∷ ts) ≡ true → NoByte c (tariffs_text (t ∷ ts))
+no_byte_more c t [] few other h = no_byte-tariff c t few (and_parts _ _ h).0
+no_byte_more c t (u ∷ us) few other h =
+    no_byte-append c (tariff_text t) (32 ∷ tariffs_text (u ∷ us))
+    (no_byte-tariff c t few (and_parts _ _ h).0) (other, no_byte_more c u us few other (and_parts _ _ h).1)
+
+no_byte-tariffs : (c : ℕ) (ts : List BookTariff) → c < 47 → eqb 32 c ≡ false → AreTariffs ts
+    → NoByte c (tariffs_text ts)
+no_byte-tariffs c [] few other h = tt
+no_byte-tariffs c (t ∷ ts) few other h = no_byte_more c t ts few other
+    (and_parts (nat_le (length (t ∷ ts)) 8) (list_all is_tariff (t ∷ ts)) h).1
 
 pub no_comma-tariffs : (ts : List BookTariff) → AreTariffs ts → NoByte 44 (tariffs_text ts)
-no_comma-tariffs [] h = tt
-no_comma-tariffs (t ∷ ts) h = no_comma_more t ts
-    (and_parts (nat_le (length (t ∷ ts)) 8) (list_all is_tariff (t ∷ ts)) h).1
+no_comma-tariffs ts h = no_byte-tariffs 44 ts (omega arith) refl h
+
+pub no_line-tariffs : (ts : List BookTariff) → AreTariffs ts → NoByte 10 (tariffs_text ts)
+no_line-tariffs ts h = no_byte-tariffs 10 ts (omega arith) refl h

@@ -1,5 +1,6 @@
 -- Times are read from the bytes that spell them.
-use Rattle.std.proofs.Common.{◌≡◌, ◌<◌, ◌≤◌, ◌+◌, ◌*◌, ◌/◌, ◌%◌, ℕ, true, false, ◌&&◌, List, length, arith, sym, ◌∙◌}
+use Rattle.std.proofs.Common.{◌≡◌, ◌<◌, ◌≤◌, ◌+◌, ◌*◌, ◌/◌, ◌%◌, ℕ, true, false, ◌&&◌, List, [], length}
+use Rattle.std.proofs.Common.{arith, sym, ◌∙◌}
 use Rattle.std.proofs.Common.{ap, refl, eqb}
 use Rattle.std.specs.Prelude.{slice_index}
 use Rattle.std.proofs.lemmas.Bool.Decides.{nat_tests}
@@ -121,47 +122,47 @@ another_time word u year month day hour minute second y mo d h mi s has other = 
       (numbers_back t word year month day hour minute second e y mo d h mi s) ∙ e);
 }
 
-low_digit : (n : ℕ) → (eqb (48 + n) 44) ≡ false
-low_digit n = grind (arith, nat_tests)
+over_byte : (c b : ℕ) → c < 45 → 45 ≤ b → eqb b c ≡ false
+over_byte c b few high = grind (arith, nat_tests)
 
--- no time has a comma
-pub no_comma-time : (t : Time) → NoByte 44 (time_text t)
+-- no time has a comma or a line feed
+no_byte-time : (c : ℕ) (t : Time) → c < 45 → NoByte c (time_text t)
 unfolding time_text
-no_comma-time t = (
-  low_digit _,
+no_byte-time c t few = (
+  over_byte c _ few (omega arith),
   (
-    low_digit _,
+    over_byte c _ few (omega arith),
     (
-      low_digit _,
+      over_byte c _ few (omega arith),
       (
-        low_digit _,
+        over_byte c _ few (omega arith),
         (
-          refl,
+          over_byte c _ few (omega arith),
           (
-            low_digit _,
+            over_byte c _ few (omega arith),
             (
-              low_digit _,
+              over_byte c _ few (omega arith),
               (
-                refl,
+                over_byte c _ few (omega arith),
                 (
-                  low_digit _,
+                  over_byte c _ few (omega arith),
                   (
-                    low_digit _,
+                    over_byte c _ few (omega arith),
                     (
-                      refl,
+                      over_byte c _ few (omega arith),
                       (
-                        low_digit _,
+                        over_byte c _ few (omega arith),
                         (
-                          low_digit _,
+                          over_byte c _ few (omega arith),
                           (
-                            refl,
+                            over_byte c _ few (omega arith),
                             (
-                              low_digit _,
+                              over_byte c _ few (omega arith),
                               (
-                                low_digit _,
+                                over_byte c _ few (omega arith),
                                 (
-                                  refl,
-                                  (low_digit _, (low_digit _, (refl, tt))),
+                                  over_byte c _ few (omega arith),
+                                  (over_byte c _ few (omega arith), (over_byte c _ few (omega arith), (over_byte c _ few (omega arith), tt))),
                                 ),
                               ),
                             ),
@@ -180,6 +181,16 @@ no_comma-time t = (
   ),
 )
 
+pub no_comma-time : (t : Time) → NoByte 44 (time_text t)
+no_comma-time t = no_byte-time 44 t (omega arith)
+
+pub no_line-time : (t : Time) → NoByte 10 (time_text t)
+no_line-time t = no_byte-time 10 t (omega arith)
+
 pub other_length : (word : List ℕ) → (length word ≡ 20 → ⊥) → IsSpelledByNone Time time_text Any word
 unfolding time_text
 other_length word other = record { none = λ t any e. other (ap length (sym e)) }
+
+pub not_empty-time : (t : Time) → time_text t ≡ [] → ⊥
+unfolding time_text
+not_empty-time t e = cc

@@ -7,7 +7,7 @@ use Rattle.std.specs.Str.{bytes_eq}
 use Rattle.share_catalog.specs.declared.billed.Mismatch.{Mismatch}
 use Rattle.share_catalog.specs.declared.billed.Mismatch.TheVariants.{Sha256, Units, Amount}
 use Rattle.share_catalog.specs.declared.kinds.Closing.{Closing}
-use Rattle.share_catalog.specs.declared.kinds.Closing.TheVariants.{Spent, Period, Reload, Rotate, End, Cut, Bad}
+use Rattle.share_catalog.specs.declared.kinds.Closing.TheVariants.{Spent, Period, Reload, Rotate, End, Cut, Bad, NoBook}
 use Rattle.share_catalog.specs.declared.row.Row.{Row}
 
 -- the first figure that the row has otherwise
@@ -18,21 +18,23 @@ mismatch_of r sha256 units amount =
     else if not (r.totals.amount == amount) then Some Amount
     else None
 
-abbrev pub is_bad : Closing → Bool
-is_bad Spent = false
-is_bad Period = false
-is_bad Reload = false
-is_bad Rotate = false
-is_bad End = false
-is_bad Cut = false
-is_bad Bad = true
+-- the text is no run, or the number has no book
+abbrev pub has_no_bill : Closing → Bool
+has_no_bill Spent = false
+has_no_bill Period = false
+has_no_bill Reload = false
+has_no_bill Rotate = false
+has_no_bill End = false
+has_no_bill Cut = false
+has_no_bill Bad = true
+has_no_bill NoBook = true
 
-abbrev pub is_bad_book : ℕ → Row → Bool
-is_bad_book number r = r.book == number && is_bad r.why
+abbrev pub is_unbilled : ℕ → Row → Bool
+is_unbilled number r = r.book == number && has_no_bill r.why
 
--- a book of this number is given, or its row says that its text is no run
+-- a book of this number is given, or its row says that its text is no run, or that there is no book
 abbrev pub is_accounted : List Row → List ℕ → ℕ → Bool
-is_accounted rows given number = list_any (λ n. n == number) given || list_any (is_bad_book number) rows
+is_accounted rows given number = list_any (λ n. n == number) given || list_any (is_unbilled number) rows
 
 abbrev pub first_book : List Row → ℕ
 first_book [] = 0

@@ -1,4 +1,6 @@
+pub mod Beginnings
 pub mod Billed
+pub mod FlowRows
 pub mod Folder
 pub mod Names
 pub mod Pieces

@@ -5,7 +5,7 @@ use Rattle.std.specs.List.{join_with_byte, list_all}
 use Rattle.share_catalog.specs.declared.kinds.TextKind.{TextKind}
 use Rattle.share_catalog.specs.declared.kinds.TextKind.TheVariants.{Whole, Lengths}
 use Rattle.share_catalog.specs.declared.kinds.Closing.{Closing}
-use Rattle.share_catalog.specs.declared.kinds.Closing.TheVariants.{Spent, Period, Reload, Rotate, End, Cut, Bad}
+use Rattle.share_catalog.specs.declared.kinds.Closing.TheVariants.{Spent, Period, Reload, Rotate, End, Cut, Bad, NoBook}
 use Rattle.share_catalog.specs.declared.tariffs.BookTariff.{BookTariff}
 
 abbrev pub IsNumber : ℕ → Type 0
@@ -67,6 +67,7 @@ closing_text Rotate = codes "rotate"
 closing_text End = codes "end"
 closing_text Cut = codes "cut"
 closing_text Bad = codes "bad"
+closing_text NoBook = codes "none"
 
 -- Tariffs
 

@@ -1,7 +1,8 @@
 //! The checks of a bill on the books that `books.csv` has.
 ghost use Rattle.std.specs.Prelude.{◌≡◌, ◌≤◌, ◌<◌, ◌&&◌, ◌==◌, [], length, slice_index, true, false, MatchOption};
 ghost use Rattle.std.specs.List.{list_any};
-ghost use Rattle.share_catalog.specs.Billed.{mismatch_of, is_bad, is_accounted, is_bad_book, IsFirstMissing, IsMissing};
+ghost use Rattle.share_catalog.specs.Billed.{mismatch_of, has_no_bill, is_accounted, is_unbilled};
+ghost use Rattle.share_catalog.specs.Billed.{IsFirstMissing, IsMissing};
 ghost use Rattle.share_catalog.specs.Billed.{Accounts};
 
 use crate::digest::Digest;
@@ -33,7 +34,7 @@ pub fn compare(row: &Row, sha256: &Digest, units: u64, amount: u64) -> Option<Mi
 }
 
 /// The least number, from that of the first row to that of the last, without a given book. Numbers of rows whose text
-/// is not a run are passed over. `None` if there is no such number.
+/// is not a run, or that have no book, are passed over. `None` if there is no such number.
 pub fn first_missing(rows: &[Row], given: &[u64]) -> Option<u64>
     ensures { IsFirstMissing rows.now given.now result }
 {
@@ -65,11 +66,11 @@ fn missing_below(rows: &[Row], given: &[u64], end: u64) -> Option<u64>
     None
 }
 
-// Whether a book is given, or its row says that its text is no run.
+// Whether a book is given, or its row says that its text is no run, or that there is no book.
 fn is_accounted(number: u64, rows: &[Row], given: &[u64]) -> bool
     ensures { result ≡ is_accounted rows.now given.now number }
 {
-    is_given(number, given) || is_set_aside(number, rows)
+    is_given(number, given) || is_passed_over(number, rows)
 }
 
 fn is_given(number: u64, given: &[u64]) -> bool
@@ -78,23 +79,23 @@ fn is_given(number: u64, given: &[u64]) -> bool
     given.iter().any(|other| *other == number)
 }
 
-fn is_set_aside(number: u64, rows: &[Row]) -> bool
-    ensures { result ≡ list_any (is_bad_book number) rows.now }
+fn is_passed_over(number: u64, rows: &[Row]) -> bool
+    ensures { result ≡ list_any (is_unbilled number) rows.now }
 {
-    rows.iter().any(|row| is_bad_book(row, number))
+    rows.iter().any(|row| is_unbilled(row, number))
 }
 
-fn is_bad_book(row: &Row, number: u64) -> bool
-    ensures { result ≡ is_bad_book number row.now }
+fn is_unbilled(row: &Row, number: u64) -> bool
+    ensures { result ≡ is_unbilled number row.now }
 {
-    row.book == number && is_bad(row.why)
+    row.book == number && has_no_bill(row.why)
 }
 
-fn is_bad(why: Closing) -> bool
-    ensures { result ≡ is_bad why }
+fn has_no_bill(why: Closing) -> bool
+    ensures { result ≡ has_no_bill why }
 {
     match why {
-        Closing::Bad => true,
+        Closing::Bad | Closing::NoBook => true,
         Closing::Spent
         | Closing::Period
         | Closing::Reload

@@ -29,6 +29,8 @@ pub enum Closing {
     Cut,
     /// Its text is no run.
     Bad,
+    /// The number has no book: the gateway was killed before the text had a whole first line.
+    NoBook,
 }
 
 impl TextKind {
@@ -71,6 +73,7 @@ impl Closing {
             Closing::End => b"end",
             Closing::Cut => b"cut",
             Closing::Bad => b"bad",
+            Closing::NoBook => b"none",
         }
     }
 
@@ -98,6 +101,9 @@ impl Closing {
         }
         if word == b"bad".as_slice() {
             return Some(Closing::Bad);
+        }
+        if word == b"none".as_slice() {
+            return Some(Closing::NoBook);
         }
         None
     }

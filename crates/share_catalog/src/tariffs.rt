@@ -1,6 +1,6 @@
 //! The tariffs of a book, as its row spells them.
 ghost use Rattle.std.specs.Prelude.{◌≡◌, ◌<◌, ◌≤◌, ◌+◌, ◌*◌, ◌∷◌, ◌++◌, [], ◌↔◌};
-ghost use Rattle.std.specs.Prelude.{codes, length, true, MatchOption, IsTrue};
+ghost use Rattle.std.specs.Prelude.{length, true, MatchOption, IsTrue};
 ghost use Rattle.std.specs.List.{list_all};
 ghost use Rattle.share_catalog.specs.Reads.{Reads};
 ghost use Rattle.share_catalog.specs.Texts.{is_tariff, tariff_text, tariffs_text, IsTariff, AreTariffs};
@@ -119,17 +119,6 @@ fn read_tariff(piece: &[u8]) -> Option<BookTariff>
     } else {
         None
     }
-}
-
-/// The line of the tariffs, as their file has it: their text and a line feed. It takes no memory.
-pub fn tariffs_line(tariffs: &Tariffs) -> ShortText
-    ensures bytes { result ≡ tariffs_text tariffs.now ++ codes "\n" }
-    ensures fit { AreTariffs tariffs.now }
-{
-    let mut text = ShortText::new();
-    push_tariffs(&mut text, tariffs);
-    text.push(b"\n");
-    text
 }
 
 /// Adds the text of the tariffs to a text.

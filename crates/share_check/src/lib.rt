@@ -2,5 +2,7 @@
 #![tactic(auto)]
 
 mod check;
+mod warning;
 
 pub use check::{Unsound, check_plan};
+pub use warning::{Warning, warnings};

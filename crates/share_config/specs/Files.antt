@@ -1,5 +1,5 @@
 -- A whole file.
-use Rattle.std.specs.Prelude.{◌≡◌, ◌≤◌, ℕ, List, [], Option, None, Some, Ok, Err}
+use Rattle.std.specs.Prelude.{◌≡◌, ◌≤◌, ◌+◌, ℕ, List, [], Option, None, Some, Ok, Err, is_none, position}
 use Rattle.toml.specs.Data.{Data, Members}
 use Rattle.share_gateway.specs.Plan.{CurrencyView, TenantView, PlanView, plan_fault}
 use Rattle.share_gateway.specs.declared.plan.PlanFault.{PlanFault}
@@ -16,7 +16,7 @@ use Rattle.share_config.specs.declared.fault.ConfigFault.TheVariants.{NoMemory, 
 use Rattle.share_config.specs.Reading.{Said, ◌>>=◌, wrong, array_in, table_in, needed, optional, known, each}
 use Rattle.share_config.specs.Sections.{uplink_of, books_of, control_of, downlink_of, web_of}
 use Rattle.share_config.specs.Lists.{tariffs_of}
-use Rattle.share_config.specs.Tenants.{currency_of, tenant_of, ports_of}
+use Rattle.share_config.specs.Tenants.{currency_of, tenant_of, ports_of, asked_of}
 use Rattle.share_config.specs.Endpoints.{endpoints_of, once}
 
 -- a table that a file may have
@@ -38,6 +38,15 @@ list_in read p k d = array_in p k d >>= each (read p) 1
 abbrev pub reached : Option Uplink → Option Downlink → Said (Option Downlink)
 reached None None = wrong location.File key.Downlink reason.NoDownlink
 reached uplink downlink = Ok downlink
+
+-- a file with a downlink needs the flow number of each tenant
+abbrev pub missing_at : Option ℕ → Said (Unit {0})
+missing_at None = Ok tt
+missing_at (Some i) = wrong (location.Tenant (i + 1)) key.Flow reason.NoFlow
+
+abbrev pub all_asked : Option Downlink → List (Option ℕ) → Said (Unit {0})
+all_asked None flows = Ok tt
+all_asked (Some d) flows = missing_at (position (λ (f : Option ℕ). is_none f) flows)
 
 abbrev pub plan_by : PlanView → Option PlanFault → Said PlanView
 plan_by p None = Ok p
@@ -62,6 +71,8 @@ settings_of all = do
   tenants ← optional (list_in tenant_of) [] location.File key.Tenant ms
   plan ← plan_of currencies tenants
   ports ← optional (list_in ports_of) [] location.File key.Tenant ms
+  flows ← optional (list_in asked_of) [] location.File key.Tenant ms
+  asked ← all_asked downlink flows
   addresses ← once (endpoints_of uplink control downlink web ports)
   Ok (record {
     uplink = uplink;
@@ -72,6 +83,7 @@ settings_of all = do
     tariffs = tariffs;
     plan = plan;
     ports = ports;
+    flows = flows;
   })
 
 -- ---- Texts

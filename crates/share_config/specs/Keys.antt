@@ -19,12 +19,14 @@ spelling key.Tenant = codes "tenant"
 spelling key.Connect = codes "connect"
 spelling key.Rate = codes "rate"
 spelling key.Buffer = codes "buffer"
+spelling key.Timeout = codes "timeout"
 spelling key.Folder = codes "folder"
 spelling key.Text = codes "text"
 spelling key.Events = codes "events"
 spelling key.Period = codes "period"
 spelling key.Listen = codes "listen"
 spelling key.Mode = codes "mode"
+spelling key.Group = codes "group"
 spelling key.From = codes "from"
 spelling key.Cell = codes "cell"
 spelling key.Overhead = codes "overhead"
@@ -41,15 +43,24 @@ spelling key.Of = codes "of"
 abbrev pub keys_of : Location → List Key
 keys_of location.File =
     key.Uplink ∷ key.Books ∷ key.Control ∷ key.Tariff ∷ key.Currency ∷ key.Tenant ∷ key.Downlink ∷ key.Web ∷ []
-keys_of location.Uplink = key.Connect ∷ key.Rate ∷ key.Buffer ∷ []
+keys_of location.Uplink = key.Connect ∷ key.Rate ∷ key.Buffer ∷ key.Timeout ∷ []
 keys_of location.Books = key.Folder ∷ key.Text ∷ key.Events ∷ key.Period ∷ []
-keys_of location.Control = key.Listen ∷ key.Mode ∷ []
+keys_of location.Control = key.Listen ∷ key.Mode ∷ key.Group ∷ []
 keys_of location.Downlink = key.Listen ∷ key.From ∷ []
 keys_of location.Web = key.Listen ∷ []
 keys_of (location.Tariff n) = key.Cell ∷ key.Overhead ∷ key.Price ∷ []
 keys_of (location.Currency n) = key.Name ∷ key.Tickets ∷ []
 keys_of (location.Tenant n) =
-    key.Name ∷ key.Flow ∷ key.Port ∷ key.Mode ∷ key.Packets ∷ key.Tariff ∷ key.Held ∷ key.Tickets ∷ []
+    key.Name
+    ∷ key.Flow
+    ∷ key.Port
+    ∷ key.Mode
+    ∷ key.Group
+    ∷ key.Packets
+    ∷ key.Tariff
+    ∷ key.Held
+    ∷ key.Tickets
+    ∷ []
 keys_of (location.CurrencyTicket n m) = key.Amount ∷ key.Of ∷ []
 keys_of (location.TenantTicket n m) = key.Amount ∷ key.Of ∷ []
 

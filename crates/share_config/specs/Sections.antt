@@ -17,7 +17,7 @@ use Rattle.share_config.specs.declared.key.Location.{Location}
 use Rattle.share_config.specs.declared.key.Location.TheVariants as location
 use Rattle.share_config.specs.declared.fault.Reason.{Reason}
 use Rattle.share_config.specs.declared.fault.Reason.TheVariants as reason
-use Rattle.share_spellings.specs.Amounts.{rate_of, period_of, mode_of}
+use Rattle.share_spellings.specs.Amounts.{rate_of, period_of, mode_of, timeout_of}
 use Rattle.share_spellings.specs.Addresses.{address_of, host_of, peer_of, listener_of, path_of}
 use Rattle.share_config.specs.Reading.{Said, ◌>>=◌, wrong, found, text_in, number_in, needed, optional, known}
 
@@ -29,6 +29,10 @@ value_in read r p k d = text_in p k d >>= λ text. found p k r (read text)
 abbrev pub some_in : {A : Type 0} → (List ℕ → Option A) → Reason → Location → Key → Data → Said (Option A)
 some_in read r p k d = value_in read r p k d >>= λ a. Ok (Some a)
 
+-- the same of a number, from the least to the most
+abbrev pub some_number : ℕ → ℕ → Location → Key → Data → Said (Option ℕ)
+some_number least most p k d = number_in least most p k d >>= λ n. Ok (Some n)
+
 -- ---- The uplink
 
 -- datagrams need a rate
@@ -36,14 +40,19 @@ abbrev pub paced : Peer → Option ℕ → Said (Option ℕ)
 paced (peer.Udp address) None = wrong location.Uplink key.Rate reason.NoRate
 paced to rate = Ok rate
 
+-- 15 s
+abbrev pub timeout_at : Members → Said ℕ
+timeout_at ms = optional (value_in timeout_of reason.Timeout) 15 location.Uplink key.Timeout ms
+
 abbrev pub uplink_of : Members → Said Uplink
 uplink_of all = do
   ms ← known location.Uplink all
   to ← needed (value_in peer_of reason.Peer) location.Uplink key.Connect ms
   given ← optional (some_in rate_of reason.Rate) None location.Uplink key.Rate ms
   rate ← paced to given
-  buffer ← optional (number_in 16384 16777216) 262144 location.Uplink key.Buffer ms
-  Ok (record { to = to; rate = rate; buffer = buffer })
+  buffer ← optional (some_number 16384 16777216) None location.Uplink key.Buffer ms
+  timeout ← timeout_at ms
+  Ok (record { to = to; rate = rate; buffer = buffer; timeout = timeout })
 
 -- ---- Books
 
@@ -71,12 +80,17 @@ default_mode = 384
 abbrev pub mode_at : Location → Members → Said ℕ
 mode_at p ms = optional (value_in mode_of reason.Mode) default_mode p key.Mode ms
 
+-- each number but the greatest, which is that of no group
+abbrev pub group_at : Location → Members → Said (Option ℕ)
+group_at p ms = optional (some_number 0 4294967294) None p key.Group ms
+
 abbrev pub control_of : Members → Said Control
 control_of all = do
   ms ← known location.Control all
   listen ← needed (value_in listener_of reason.Listener) location.Control key.Listen ms
   mode ← mode_at location.Control ms
-  Ok (record { listen = listen; mode = mode })
+  group ← group_at location.Control ms
+  Ok (record { listen = listen; mode = mode; group = group })
 
 -- ---- The downlink
 

@@ -14,7 +14,7 @@ use Rattle.share_config.specs.declared.fault.Reason.TheVariants as reason
 use Rattle.share_spellings.specs.Addresses.{port_of}
 use Rattle.share_config.specs.Reading.{Said, ◌>>=◌, wrong, found, text_in, number_in, boolean_in, array_in, table_in}
 use Rattle.share_config.specs.Reading.{needed, optional, known, each}
-use Rattle.share_config.specs.Sections.{value_in, mode_at}
+use Rattle.share_config.specs.Sections.{value_in, group_at, mode_at}
 
 abbrev pub name_of : List ℕ → Option (List ℕ)
 name_of text = if is_name text then Some text else None
@@ -58,18 +58,26 @@ currency_of p n d = table_in p key.Currency d >>= currency_at (location.Currency
 
 -- ---- Tenants
 
--- a flow number, which is the tenant's place if the file gives none
-abbrev pub in_flows : Location → ℕ → Said ℕ
-in_flows p flow = if nat_le flow 1024 then Ok flow else wrong p key.Flow (reason.Range 1 1024)
+-- the flow number that a tenant asks for
+abbrev pub some_flow : Location → Key → Data → Said (Option ℕ)
+some_flow p k d = number_in 1 1024 p k d >>= λ flow. Ok (Some flow)
 
-abbrev pub flow_at : ℕ → Members → Said ℕ
-flow_at n ms = optional (number_in 1 1024) n (location.Tenant n) key.Flow ms >>= in_flows (location.Tenant n)
+abbrev pub asked_at : ℕ → Members → Said (Option ℕ)
+asked_at n ms = optional some_flow None (location.Tenant n) key.Flow ms
+
+abbrev pub asked_of : Location → ℕ → Data → Said (Option ℕ)
+asked_of p n d = table_in p key.Tenant d >>= asked_at n
+
+-- before names have numbers a tenant has that of its place
+abbrev pub in_flows : ℕ → Said ℕ
+in_flows n = if nat_le n 1024 then Ok n else wrong (location.Tenant n) key.Flow (reason.Range 1 1024)
 
 abbrev pub tenant_at : ℕ → Members → Said TenantView
 tenant_at n all = do
   ms ← known (location.Tenant n) all
   name ← needed (value_in name_of reason.Name) (location.Tenant n) key.Name ms
-  flow ← flow_at n ms
+  asked ← asked_at n ms
+  flow ← in_flows n
   limit ← optional (number_in 1 1024) 256 (location.Tenant n) key.Packets ms
   tariff ← optional (number_in 1 8) 1 (location.Tenant n) key.Tariff ms
   held ← optional boolean_in false (location.Tenant n) key.Held ms
@@ -91,7 +99,8 @@ abbrev pub ports_at : Location → Members → Said PortsView
 ports_at p ms = do
   ports ← optional port_list_in [] p key.Port ms
   mode ← mode_at p ms
-  Ok (record { ports = ports; mode = mode })
+  group ← group_at p ms
+  Ok (record { ports = ports; mode = mode; group = group })
 
 abbrev pub ports_of : Location → ℕ → Data → Said PortsView
 ports_of p n d = table_in p key.Tenant d >>= ports_at (location.Tenant n)

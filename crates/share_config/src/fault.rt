@@ -41,6 +41,8 @@ pub enum Reason {
     BookText,
     #[error("not a time of at least 10 s, such as 1 h")]
     Period,
+    #[error("not a time from 2 s to 10 min, such as 15 s")]
+    Timeout,
     #[error("not a mode such as 0600")]
     Mode,
     #[error("not a path of 1 to 4095 bytes without a zero byte")]
@@ -51,6 +53,8 @@ pub enum Reason {
     TooMany { most: usize },
     #[error("missing, and a file without [uplink] needs it")]
     NoDownlink,
+    #[error("missing, and a file with [downlink] needs it")]
+    NoFlow,
 }
 
 /// Why a text is no file of a gateway.

@@ -1,5 +1,6 @@
 //! A file from its text.
-ghost use Rattle.std.specs.Prelude.{◌≡◌, ◌≤◌, [], IfOk, IfErr, Ok, Err, None, Some, option_map};
+ghost use Rattle.std.specs.Prelude.{◌≡◌, ◌<◌, ◌≤◌, ℕ, [], length, position, IfOk, IfErr, IfSome, OnOk, Ok, Err};
+ghost use Rattle.std.specs.Prelude.{Option, None, Some, is_none, option_map};
 ghost use Rattle.toml.specs.View.{table_view};
 ghost use Rattle.toml.specs.Parse.{parse_document};
 ghost use Rattle.toml.specs.Errors.{IsMemory};
@@ -7,7 +8,7 @@ ghost use Rattle.share_config.specs.Reading.{needed, optional};
 ghost use Rattle.share_config.specs.Sections.{uplink_of, books_of, control_of, downlink_of, web_of};
 ghost use Rattle.share_config.specs.Tenants.{currency_of, tenant_of, ports_of};
 ghost use Rattle.share_config.specs.Files.{some_table, table_at, list_in, reached, plan_of, settings_of, IsFault};
-ghost use Rattle.share_config.specs.Files.{IsNotToml};
+ghost use Rattle.share_config.specs.Files.{IsNotToml, all_asked};
 ghost use Rattle.share_config.specs.declared.key.Key.TheVariants as key;
 ghost use Rattle.share_config.specs.declared.key.Location.TheVariants as location;
 ghost use Rattle.share_config.specs.declared.fault.ConfigFault.TheVariants.{NoMemory};
@@ -77,6 +78,8 @@ fn settings(alloc: Global, table: &Table) -> Result<Settings, ConfigFault>
     let tenants = list_at::<Tenant>(alloc, table, Key::Tenant)?;
     let plan = plan(currencies, tenants)?;
     let ports = list_at::<TenantPorts>(alloc, table, Key::Tenant)?;
+    let flows = list_at::<Option<u32>>(alloc, table, Key::Tenant)?;
+    all_asked(downlink, flows.as_slice())?;
     check_addresses(alloc, uplink, &control, downlink, web, ports.as_slice())?;
     Ok(Settings {
         uplink,
@@ -87,6 +90,7 @@ fn settings(alloc: Global, table: &Table) -> Result<Settings, ConfigFault>
         tariffs,
         plan,
         ports,
+        flows,
     })
 }
 
@@ -183,6 +187,32 @@ fn reached(
         (None, None) => Err(ConfigFault::wrong(Location::File, Key::Downlink, Reason::NoDownlink)),
         _ => Ok(downlink),
     }
+}
+
+// A file with a downlink needs the flow number of each tenant.
+fn all_asked(downlink: Option<Downlink>, flows: &[Option<u32>]) -> Result<(), ConfigFault>
+    ensures ok { OnOk result (all_asked downlink flows.now ≡ Ok tt) }
+    ensures fault { IfErr result (λ e. all_asked downlink flows.now ≡ Err e) }
+{
+    let Some(_) = downlink else {
+        return Ok(());
+    };
+    match first_unasked(flows) {
+        None => Ok(()),
+        Some(index) => Err(ConfigFault::wrong(
+            Location::Tenant(index + 1),
+            Key::Flow,
+            Reason::NoFlow,
+        )),
+    }
+}
+
+// The index of the first tenant that asks for no flow number.
+fn first_unasked(flows: &[Option<u32>]) -> Option<usize>
+    ensures first { result ≡ position (λ (f : Option ℕ). is_none f) flows.now }
+    ensures within { IfSome result (λ index. index < length flows.now) }
+{
+    flows.iter().position(|flow| flow.is_none())
 }
 
 // The plan of the currencies and the tenants.

@@ -1,5 +1,5 @@
 //! Values of a table, by their keys.
-ghost use Rattle.std.specs.Prelude.{◌≡◌, IfOk, IfErr, Ok, Err, None, Some, MatchOption, option_map, string_bytes};
+ghost use Rattle.std.specs.Prelude.{◌≡◌, ◌≤◌, IfOk, IfErr, Ok, Err, None, Some, MatchOption, option_map, string_bytes};
 ghost use Rattle.toml.specs.View.{view, table_view, items_view};
 ghost use Rattle.toml.specs.Data.{get_member};
 ghost use Rattle.share_config.specs.Keys.{spelling};
@@ -74,7 +74,8 @@ pub(crate) fn number_in(
     least: u64,
     most: u64,
 ) -> Result<u64, ConfigFault>
-    ensures { result ≡ number_in least most location key (view value.now) }
+    ensures value { result ≡ number_in least most location key (view value.now) }
+    ensures few { IfOk result (λ number. number ≤ most) }
 {
     let Some(number) = value.as_integer() else {
         return Err(ConfigFault::wrong(location, key, Reason::NotInteger));

@@ -2,7 +2,7 @@
 ghost use Rattle.std.specs.Prelude.{◌≡◌, IfOk, IfErr, Ok, Err, None, Some};
 ghost use Rattle.toml.specs.View.{table_view};
 ghost use Rattle.share_config.specs.Sections.{uplink_of, books_of, control_of, downlink_of, book_text_of, mode_at};
-ghost use Rattle.share_config.specs.Sections.{paced, web_of};
+ghost use Rattle.share_config.specs.Sections.{group_at, paced, some_number, timeout_at, web_of};
 ghost use Rattle.share_config.specs.Sections.{value_in, some_in};
 ghost use Rattle.share_config.specs.Reading.{needed, optional};
 ghost use Rattle.share_spellings.specs.Amounts.{rate_of, period_of, mode_of};
@@ -15,10 +15,11 @@ ghost use Rattle.share_config.specs.declared.fault.ConfigFault.TheVariants.{NoMe
 
 use crate::fault::{ConfigFault, Reason};
 use crate::key::{Key, Location};
-use crate::reading::{at, check_keys, found, needed_text, optional_number, text_in};
+use crate::reading::{at, check_keys, found, needed_text, number_in, optional_number, text_in};
 use share_settings::{BookText, Books, Control, Downlink, Listener, Peer, Text, Uplink, Web};
 use share_spellings::{
-    read_address, read_host, read_listener, read_mode, read_path, read_peer, read_period, read_rate,
+    read_address, read_host, read_listener, read_mode, read_path, read_peer, read_period,
+    read_rate, read_timeout,
 };
 use std::alloc::Global;
 use std::net::{IpAddr, SocketAddr};
@@ -26,6 +27,12 @@ use toml::Table;
 
 /// The mode of a Unix socket, if the file gives none.
 const DEFAULT_MODE: u32 = 0o600;
+
+/// The greatest number of a group. The one above it is that of no group.
+const MAX_GROUP: u64 = 4_294_967_294;
+
+/// The seconds for which a path may answer nothing, if the file gives none.
+const DEFAULT_TIMEOUT: u64 = 15;
 
 /// The longest path of a folder, in bytes.
 const MAX_FOLDER: usize = 4095;
@@ -38,15 +45,47 @@ pub(crate) fn uplink(alloc: Global, table: &Table) -> Result<Uplink, ConfigFault
     check_keys(alloc, table, Location::Uplink)?;
     let to = peer(table, Location::Uplink, Key::Connect)?;
     let rate = paced(to, given_rate(table)?)?;
-    let buffer = optional_number(
-        table,
+    let buffer = given_number(table, Location::Uplink, Key::Buffer, 16384, 16_777_216)?;
+    let timeout = timeout(table)?;
+    Ok(Uplink {
+        to,
+        rate,
+        buffer,
+        timeout,
+    })
+}
+
+// The number at a key, if the table has it.
+fn given_number(
+    table: &Table,
+    location: Location,
+    key: Key,
+    least: u64,
+    most: u64,
+) -> Result<Option<u64>, ConfigFault>
+    ensures { result ≡ optional (some_number least most) None location key (table_view table.now) }
+{
+    let Some(value) = at(table, key) else {
+        return Ok(None);
+    };
+    let number = number_in(value, location, key, least, most)?;
+    Ok(Some(number))
+}
+
+// The seconds for which the path of an uplink may answer nothing.
+fn timeout(table: &Table) -> Result<u64, ConfigFault>
+    ensures { result ≡ timeout_at (table_view table.now) }
+{
+    let Some(value) = at(table, Key::Timeout) else {
+        return Ok(DEFAULT_TIMEOUT);
+    };
+    let text = text_in(value, Location::Uplink, Key::Timeout)?;
+    found(
+        read_timeout(text),
         Location::Uplink,
-        Key::Buffer,
-        262_144,
-        16384,
-        16_777_216,
-    )?;
-    Ok(Uplink { to, rate, buffer })
+        Key::Timeout,
+        Reason::Timeout,
+    )
 }
 
 // The peer at a key.
@@ -181,7 +220,12 @@ pub(crate) fn control(alloc: Global, table: &Table) -> Result<Control, ConfigFau
     check_keys(alloc, table, Location::Control)?;
     let listen = control_listener(alloc, table)?;
     let mode = mode(table, Location::Control)?;
-    Ok(Control { listen, mode })
+    let group = group(table, Location::Control)?;
+    Ok(Control {
+        listen,
+        mode,
+        group,
+    })
 }
 
 fn control_listener(alloc: Global, table: &Table) -> Result<Listener, ConfigFault>
@@ -207,6 +251,13 @@ pub(crate) fn mode(table: &Table, location: Location) -> Result<u32, ConfigFault
     };
     let text = text_in(value, location, Key::Mode)?;
     found(read_mode(text), location, Key::Mode, Reason::Mode)
+}
+
+/// The group of the Unix sockets of a table.
+pub(crate) fn group(table: &Table, location: Location) -> Result<Option<u64>, ConfigFault>
+    ensures { result ≡ group_at location (table_view table.now) }
+{
+    given_number(table, location, Key::Group, 0, MAX_GROUP)
 }
 
 /// The downlink of its table.

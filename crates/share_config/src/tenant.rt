@@ -1,10 +1,10 @@
 //! The currencies and the tenants of a file.
-ghost use Rattle.std.specs.Prelude.{◌≡◌, IfOk, IfErr, Ok, Err, false};
+ghost use Rattle.std.specs.Prelude.{◌≡◌, IfOk, IfErr, Ok, Err, None, false};
 ghost use Rattle.toml.specs.View.{table_view};
 ghost use Rattle.share_config.specs.Sections.{value_in};
 ghost use Rattle.share_config.specs.Reading.{needed, optional, boolean_in};
-ghost use Rattle.share_config.specs.Tenants.{ticket_location, ticket_at, tickets_at, currency_at, flow_at, tenant_at};
-ghost use Rattle.share_config.specs.Tenants.{ports_at};
+ghost use Rattle.share_config.specs.Tenants.{ticket_location, ticket_at, tickets_at, currency_at, tenant_at};
+ghost use Rattle.share_config.specs.Tenants.{ports_at, asked_at, in_flows};
 ghost use Rattle.share_config.specs.Tenants.{name_of};
 ghost use Rattle.share_config.specs.declared.key.Key.TheVariants as key;
 ghost use Rattle.share_config.specs.declared.fault.Reason.TheVariants as reason;
@@ -17,7 +17,7 @@ use crate::reading::{
     array_in, at, boolean_in, check_keys, found, needed_number, needed_text, number_in,
     optional_number, table_in, text_in,
 };
-use crate::section::mode;
+use crate::section::{group, mode};
 use share_base::Name;
 use share_gateway::{Currency, Grant, Tenant};
 use share_settings::{Port, TenantPorts};
@@ -141,7 +141,8 @@ fn tenant(alloc: Global, table: &Table, number: usize) -> Result<Tenant, ConfigF
     let location = Location::Tenant(number);
     check_keys(alloc, table, location)?;
     let name = name(table, location)?;
-    let flow = flow(table, number)?;
+    let _ = asked(table, number)?;
+    let flow = place(number)?;
     let limit = optional_number(table, location, Key::Packets, 256, 1, 1024)?;
     let tariff = optional_number(table, location, Key::Tariff, 1, 1, 8)?;
     let held = held(table, location)?;
@@ -156,18 +157,26 @@ fn tenant(alloc: Global, table: &Table, number: usize) -> Result<Tenant, ConfigF
     })
 }
 
-// The flow number of a tenant: its place among the tenants, if the file gives none.
-fn flow(table: &Table, number: usize) -> Result<u32, ConfigFault>
-    ensures { result ≡ flow_at number (table_view table.now) }
+// The flow number that a tenant asks for, if it asks for one.
+fn asked(table: &Table, number: usize) -> Result<Option<u32>, ConfigFault>
+    ensures { result ≡ asked_at number (table_view table.now) }
 {
-    let location = Location::Tenant(number);
-    let flow = match at(table, Key::Flow) {
-        None => number as u64,
-        Some(value) => number_in(value, location, Key::Flow, 1, 1024)?,
-    };
-    if flow > 1024 {
+    match at(table, Key::Flow) {
+        None => Ok(None),
+        Some(value) => {
+            let flow = number_in(value, Location::Tenant(number), Key::Flow, 1, 1024)?;
+            Ok(Some(flow as u32))
+        }
+    }
+}
+
+// The flow number of a tenant before names have numbers: its place among the tenants.
+fn place(number: usize) -> Result<u32, ConfigFault>
+    ensures { result ≡ in_flows number }
+{
+    if number > 1024 {
         return Err(ConfigFault::wrong(
-            location,
+            Location::Tenant(number),
             Key::Flow,
             Reason::Range {
                 least: 1,
@@ -175,7 +184,7 @@ fn flow(table: &Table, number: usize) -> Result<u32, ConfigFault>
             },
         ));
     }
-    Ok(flow as u32)
+    Ok(number as u32)
 }
 
 // Whether a tenant is held.
@@ -185,6 +194,22 @@ fn held(table: &Table, location: Location) -> Result<bool, ConfigFault>
     match at(table, Key::Held) {
         None => Ok(false),
         Some(value) => boolean_in(value, location, Key::Held),
+    }
+}
+
+impl Entry for Option<u32> {
+    ghost use Rattle.share_config.specs.Tenants.{asked_of};
+
+    ghost said = { asked_of };
+
+    fn read(
+        alloc: Global,
+        location: Location,
+        number: usize,
+        value: &Value,
+    ) -> Result<Option<u32>, ConfigFault> {
+        let table = table_in(value, location, Key::Tenant)?;
+        asked(table, number)
     }
 }
 
@@ -213,7 +238,8 @@ fn ports(alloc: Global, table: &Table, location: Location) -> Result<TenantPorts
         Some(value) => read_all::<Port>(alloc, location, array_in(value, location, Key::Port)?)?,
     };
     let mode = mode(table, location)?;
-    Ok(TenantPorts { ports, mode })
+    let group = group(table, location)?;
+    Ok(TenantPorts { ports, mode, group })
 }
 
 impl Entry for Port {

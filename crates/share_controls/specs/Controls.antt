@@ -4,11 +4,13 @@ use Rattle.share_script.specs.Lines.{IsNextLine}
 use Rattle.share_script.specs.declared.lines.Incoming.TheVariants as found
 use Rattle.share_controls.specs.declared.connection.Front.{Front}
 use Rattle.share_controls.specs.declared.connection.Front.TheVariants.{Line, OverLong, Nothing}
+use Rattle.share_controls.specs.declared.connection.Trust.{Trust}
+use Rattle.share_controls.specs.declared.connection.Trust.TheVariants.{New, Known, Refused}
 
 -- the token of its events, the front of its lines, and the nanoseconds at which the last line came there, or the
--- connection was made. Then come the line that was given last, the bytes that came after it, and the replies that were
--- not taken. Last come what its socket may be ready for, whether its last line came, and whether its last reply went
--- out
+-- connection was made. Then come the line that was given last, the bytes that came after it, the replies that were not
+-- taken, and what its first line was. Last come what its socket may be ready for, whether its last line came, and
+-- whether its last reply went out
 pub record ControlView : Type 0 where
   pub token : ℕ
   pub front : Front
@@ -16,6 +18,7 @@ pub record ControlView : Type 0 where
   pub line : List ℕ
   pub ahead : List ℕ
   pub replies : List ℕ
+  pub trust : Trust
   pub reads : Bool
   pub writes : Bool
   pub has_ended : Bool
@@ -29,6 +32,7 @@ new_control token now = record {
   line = [];
   ahead = [];
   replies = [];
+  trust = New;
   reads = true;
   writes = true;
   has_ended = false;
@@ -79,13 +83,33 @@ FrontIs OverLong c now answer d = (answer ≡ OverLong) × (d ≡ c)
 abbrev pub is_full : ControlView → Bool
 is_full c = nat_le 65536 (length c.replies)
 
--- a line that is at the front waits while too many bytes of replies do
+-- ---- The first line
+
+-- if an order comes
+abbrev pub after_order : Trust → Trust
+after_order New = Known
+after_order Known = Known
+after_order Refused = Refused
+
+-- if a line comes that is no order
+abbrev pub after_other : Trust → Trust
+after_other New = Refused
+after_other Known = Known
+after_other Refused = Refused
+
+abbrev pub is_refused : Trust → Bool
+is_refused New = false
+is_refused Known = false
+is_refused Refused = true
+
+-- a line that is at the front waits while too many bytes of replies do, and none comes there after a first one that was
+-- refused
 abbrev pub FrontsIf : Bool → ControlView → ℕ → Front → ControlView → Type 0
 FrontsIf true c now answer d = (answer ≡ Nothing) × (d ≡ c)
 FrontsIf false c now answer d = FrontIs c.front c now answer d
 
 abbrev pub Fronts : ControlView → ℕ → Front → ControlView → Type 0
-Fronts c now answer d = FrontsIf (is_full c) c now answer d
+Fronts c now answer d = FrontsIf (is_full c || is_refused c.trust) c now answer d
 
 -- ---- The work that is left
 
@@ -109,6 +133,10 @@ takes c = c.reads && not c.has_ended && not (is_full c) && is_nothing c.front
 abbrev pub is_busy : ControlView → Bool
 is_busy c = not c.is_broken && (sends c || takes c)
 
--- the last line came, each line is passed, and all replies were taken
+-- the last line came, and each line is passed
+abbrev pub has_no_more : ControlView → Bool
+has_no_more c = c.has_ended && is_nothing c.front
+
+-- and all replies were taken
 abbrev pub is_done : ControlView → Bool
 is_done c = c.has_ended && not (has_replies c) && is_nothing c.front

@@ -2,8 +2,10 @@
 ghost use Rattle.std.specs.Prelude.{◌≡◌, ◌++◌, ◌||◌, ℕ, true, false, drop, IfOk, IfNone, IfSome};
 ghost use Rattle.std.specs.Time.{instant_nanos};
 ghost use Rattle.share_controls.specs.Controls.{Comes, Fronts, NextFront, Seeks, has_replies, is_busy, is_done};
-ghost use Rattle.share_controls.specs.Controls.{is_nothing, new_control, noted, sends, takes};
+ghost use Rattle.share_controls.specs.Controls.{after_order, after_other, has_no_more, is_nothing, is_refused};
+ghost use Rattle.share_controls.specs.Controls.{new_control, noted, sends, takes};
 ghost use Rattle.share_controls.specs.declared.connection.Front.TheVariants.{Nothing};
+ghost use Rattle.share_controls.specs.declared.connection.Trust.TheVariants.{Known};
 
 use share_model::{Got, PlainReader};
 use share_orders::Replies;
@@ -28,6 +30,17 @@ pub enum Front {
     Nothing,
 }
 
+/// The first line of a connection.
+#[derive(Clone, Copy, Debug, PartialEq, Eq)]
+pub enum Trust {
+    /// No line came yet.
+    New,
+    /// The first line was an order, or may be none.
+    Known,
+    /// The first line was no order, as that of a request of HTTP. No line is taken after it.
+    Refused,
+}
+
 /// A control connection. No line is read while too many bytes of replies wait. A contract sees its lines, its replies,
 /// and what its socket may be ready for.
 pub struct ControlConnection {
@@ -40,6 +53,7 @@ pub struct ControlConnection {
     front: Front,
     // The time at which the last line came to the front.
     last_line: Instant,
+    trust: Trust,
     is_readable: bool,
     is_writable: bool,
     // Whether the last line came, and whether the last reply went out.
@@ -56,6 +70,7 @@ impl Drop for ControlConnection {
             token: _,
             front: _,
             last_line: _,
+            trust: _,
             is_readable: _,
             is_writable: _,
             has_ended: _,
@@ -81,6 +96,7 @@ impl Model for ControlConnection {
           line = c.lines.line;
           ahead = c.lines.ahead;
           replies = c.replies;
+          trust = c.trust;
           reads = c.is_readable;
           writes = c.is_writable;
           has_ended = c.has_ended;
@@ -109,6 +125,7 @@ impl ControlConnection {
             token,
             front: Front::Nothing,
             last_line: now,
+            trust: Trust::New,
             is_readable: true,
             is_writable: true,
             has_ended: false,
@@ -128,6 +145,13 @@ impl ControlConnection {
         ensures { instant_nanos result ≡ self.now.last }
     {
         self.last_line
+    }
+
+    /// Has it take lines also after a first one that is no order.
+    pub fn know(&mut self)
+        ensures { self.new ≡ record self.old { trust = Known } }
+    {
+        self.trust = Trust::Known;
     }
 
     /// Its socket was reported readable or writable.
@@ -151,6 +175,13 @@ impl ControlConnection {
         self.front.is_nothing()
     }
 
+    /// Whether no more lines come of it.
+    pub fn has_no_more(&self) -> bool
+        ensures { result ≡ (self.now.is_broken || has_no_more self.now) }
+    {
+        self.is_broken || self.has_ended && self.front.is_nothing()
+    }
+
     // Whether replies wait.
     fn has_replies(&self) -> bool
         ensures { result ≡ has_replies self.now }
@@ -159,11 +190,11 @@ impl ControlConnection {
     }
 
     /// The line at the front. It stays there until it is passed. Nothing is read if a line is there, or too many bytes
-    /// of replies wait. If a line comes to the front, it does so at `now`.
+    /// of replies wait, or the first line was refused. If a line comes to the front, it does so at `now`.
     pub fn front(&mut self, now: Instant) -> Front
         ensures { Fronts self.old (instant_nanos now) result self.new }
     {
-        if self.replies.is_full() {
+        if self.replies.is_full() || self.trust.is_refused() {
             return Front::Nothing;
         }
         match self.front {
@@ -266,8 +297,42 @@ impl ControlConnection {
         Some(Front::Nothing)
     }
 
-    /// Passes the line at the front, with this reply. Without memory for the reply the connection is closed.
+    /// Passes the line at the front, which is an order, with this reply. Without memory for the reply the connection is
+    /// closed.
     pub fn pass(&mut self, reply: &[u8])
+        ensures same { self.new ≡ record self.old {
+          front = Nothing;
+          replies = self.new.replies;
+          trust = after_order self.old.trust;
+          is_broken = self.new.is_broken;
+        } }
+        ensures replied { self.new.is_broken ≡ false → self.new.replies ≡ self.old.replies ++ reply.now }
+        ensures broken { self.old.is_broken ≡ true → self.new.is_broken ≡ true }
+    {
+        self.trust = self.trust.after_order();
+        self.answer(reply);
+    }
+
+    /// Passes the line at the front, which is no order, with this reply. If no line before it was an order, the
+    /// connection takes no more lines, and is over once the reply went out. Without memory for the reply it is closed.
+    pub fn refuse(&mut self, reply: &[u8])
+        ensures same { self.new ≡ record self.old {
+          front = Nothing;
+          replies = self.new.replies;
+          trust = after_other self.old.trust;
+          has_ended = self.old.has_ended || is_refused (after_other self.old.trust);
+          is_broken = self.new.is_broken;
+        } }
+        ensures replied { self.new.is_broken ≡ false → self.new.replies ≡ self.old.replies ++ reply.now }
+        ensures broken { self.old.is_broken ≡ true → self.new.is_broken ≡ true }
+    {
+        self.trust = self.trust.after_other();
+        self.has_ended |= self.trust.is_refused();
+        self.answer(reply);
+    }
+
+    // Passes the line at the front, with this reply.
+    fn answer(&mut self, reply: &[u8])
         ensures same { self.new ≡ record self.old {
           front = Nothing;
           replies = self.new.replies;
@@ -329,6 +394,37 @@ impl ControlConnection {
             }
         }
         true
+    }
+}
+
+impl Trust {
+    // The first line, if an order comes.
+    fn after_order(self) -> Trust
+        ensures { result ≡ after_order self }
+    {
+        match self {
+            Trust::New | Trust::Known => Trust::Known,
+            Trust::Refused => Trust::Refused,
+        }
+    }
+
+    // The first line, if a line comes that is no order.
+    fn after_other(self) -> Trust
+        ensures { result ≡ after_other self }
+    {
+        match self {
+            Trust::New | Trust::Refused => Trust::Refused,
+            Trust::Known => Trust::Known,
+        }
+    }
+
+    fn is_refused(self) -> bool
+        ensures { result ≡ is_refused self }
+    {
+        match self {
+            Trust::New | Trust::Known => false,
+            Trust::Refused => true,
+        }
     }
 }
 

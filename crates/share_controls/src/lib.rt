@@ -3,4 +3,4 @@
 
 mod connection;
 
-pub use connection::{ControlConnection, Front};
+pub use connection::{ControlConnection, Front, Trust};

@@ -1,12 +1,13 @@
 //! The files of one book, as share_archive asks for them.
 ghost use Rattle.std.specs.Prelude.{◌≡◌};
-ghost use Rattle.share_disk.specs.Texts.{closed_kind, text_state};
+ghost use Rattle.share_disk.specs.Texts.{closed_kind, closed_text, known_row, open_text, text_state};
 
 use crate::book_end::BookEnd;
-use crate::books_csv::{BooksCsv, append_row, cut_row};
-use crate::files::{rename_new, write_new};
+use crate::books_csv::{append_row, cut_row, row_state, sync_rows};
+use crate::files::{open_both, rename_new, write_new};
 use crate::folder::Folder;
-use share_archive::{BookFiles, BookState, BookText, RowState, Step};
+use crate::measure::write_again;
+use share_archive::{BookFiles, BookState, BookText, Durability, RowState, Step};
 use share_catalog::{FileKind, TextKind};
 use std::alloc::Global;
 use std::fs::{File, Files};
@@ -18,6 +19,8 @@ use std::{fs, io};
 pub(crate) enum TextRead {
     /// It has no whole first line.
     Headless,
+    /// Neither a file nor a row has its tariffs.
+    Unpriced,
     /// It is no run.
     NoRun,
     /// It is a run.
@@ -33,6 +36,14 @@ pub(crate) struct OneBook<'r, 'f, 'e, R> {
     pub(crate) read: TextRead,
     /// The row of the book, if it is known.
     pub(crate) end: Option<&'e BookEnd>,
+    /// Whether the bytes of the text were made durable here. A text that was found is not known to be.
+    pub(crate) bytes: Durability,
+    /// Whether the row was.
+    pub(crate) row: Durability,
+    /// Whether a sync of the text has failed.
+    pub(crate) is_doubted: bool,
+    /// The file of the last step. `None` if it is that of the rows.
+    pub(crate) touched: Option<FileKind>,
 }
 
 impl<'r, 'f, 'e, R> Drop for OneBook<'r, 'f, 'e, R> {
@@ -44,6 +55,10 @@ impl<'r, 'f, 'e, R> Drop for OneBook<'r, 'f, 'e, R> {
             number: _,
             read: _,
             end: _,
+            bytes: _,
+            row: _,
+            is_doubted: _,
+            touched: _,
         } = self;
     }
 }
@@ -54,6 +69,7 @@ impl<'r, 'f, 'e, R: Files<File = File>> BookFiles for OneBook<'r, 'f, 'e, R> {
     ghost known = { λ _. None };
 
     fn look(&mut self) -> io::Result<BookState> {
+        self.touched = None;
         let row = self.row_state()?;
         self.state_with(row)
     }
@@ -64,11 +80,12 @@ impl<'r, 'f, 'e, R: Files<File = File>> BookFiles for OneBook<'r, 'f, 'e, R> {
             Step::RemovePart => self.remove(FileKind::Part),
             Step::RemoveText => self.remove(FileKind::Open),
             Step::RemoveReport => self.remove(FileKind::Report),
-            Step::RemoveTariffs => self.remove(FileKind::Tariffs),
+            Step::SyncText => self.sync_text(),
             Step::MarkBad => self.rename_text(FileKind::Bad),
             Step::CloseText => self.close_text(),
             Step::WriteReport => self.write_report(),
             Step::AppendRow => self.append_row(),
+            Step::SyncRow => self.sync_row(),
         }
     }
 }
@@ -81,17 +98,18 @@ impl<'r, 'f, 'e, R: Files<File = File>> OneBook<'r, 'f, 'e, R> {
 
     // The row of the book, as `books.csv` has it.
     fn row_state(&self) -> io::Result<RowState> {
-        BooksCsv::open(self.rt, self.alloc, self.folder)?.row_state(self.number)
+        let found = row_state(self.rt, self.alloc, self.folder, self.number)?;
+        Ok(known_row(found, self.row))
     }
 
     /// The files of the book in the folder, whose row is like this.
     pub(crate) fn state_with(&self, row: RowState) -> io::Result<BookState> {
         Ok(BookState {
             text: text_state(self.text_kind()?, self.read),
+            bytes: self.bytes,
             report: self.has(FileKind::Report)?,
             part: self.has(FileKind::Part)?,
             row,
-            tariffs: self.has(FileKind::Tariffs)?,
         })
     }
 
@@ -118,15 +136,43 @@ impl<'r, 'f, 'e, R: Files<File = File>> OneBook<'r, 'f, 'e, R> {
         }
     }
 
+    // The path of a file that a step is about to touch.
+    fn touch(&mut self, kind: FileKind) -> io::Result<String> {
+        self.touched = Some(kind);
+        self.folder.path_of(self.alloc, self.number, kind)
+    }
+
     // Removes a file.
-    fn remove(&self, kind: FileKind) -> io::Result<()> {
-        let path = self.folder.path_of(self.alloc, self.number, kind)?;
+    fn remove(&mut self, kind: FileKind) -> io::Result<()> {
+        let path = self.touch(kind)?;
         fs::remove_file(self.rt, path.as_str())?;
         self.folder.sync()
     }
 
+    // Makes the bytes of the text durable. After a sync that failed they are written again, since the system may have
+    // forgotten that they are not. They have to be those of the digest then.
+    fn sync_text(&mut self) -> io::Result<()> {
+        let Some(found) = self.text_kind()? else {
+            return Err(io::Error::from(ErrorKind::NotFound));
+        };
+        let path = self.touch(found)?;
+        if self.is_doubted || fs::open(self.rt, path.as_str())?.sync_all().is_err() {
+            self.is_doubted = true;
+            let file = open_both(self.rt, path.as_str())?;
+            let written = write_again(&file)?;
+            let end = self.end()?;
+            if written.as_bytes() != end.row.sha256.as_bytes() {
+                return Err(io::Error::from(ErrorKind::InvalidData));
+            }
+            file.sync_all()?;
+            self.is_doubted = false;
+        }
+        self.bytes = Durability::Synced;
+        Ok(())
+    }
+
     // Renames the text to a file of another kind.
-    fn rename_text(&self, kind: FileKind) -> io::Result<()> {
+    fn rename_text(&mut self, kind: FileKind) -> io::Result<()> {
         match self.text_kind()? {
             None => Err(io::Error::from(ErrorKind::NotFound)),
             Some(found) => self.rename(found, kind),
@@ -134,31 +180,53 @@ impl<'r, 'f, 'e, R: Files<File = File>> OneBook<'r, 'f, 'e, R> {
     }
 
     // Renames a file to one of another kind, which is not there.
-    fn rename(&self, from: FileKind, to: FileKind) -> io::Result<()> {
-        let old = self.folder.path_of(self.alloc, self.number, from)?;
-        let new = self.folder.path_of(self.alloc, self.number, to)?;
+    fn rename(&mut self, from: FileKind, to: FileKind) -> io::Result<()> {
+        let old = self.touch(from)?;
+        let new = self.touch(to)?;
         rename_new(self.rt, old.as_str(), new.as_str())?;
         self.folder.sync()
     }
 
-    fn close_text(&self) -> io::Result<()> {
+    fn close_text(&mut self) -> io::Result<()> {
         let end = self.end()?;
         self.rename_text(closed_kind(end.row.kind))
     }
 
     // Writes the report under another name, and renames it.
-    fn write_report(&self) -> io::Result<()> {
+    fn write_report(&mut self) -> io::Result<()> {
         let end = self.end()?;
-        let part = self
-            .folder
-            .path_of(self.alloc, self.number, FileKind::Part)?;
+        let part = self.touch(FileKind::Part)?;
         write_new(self.rt, part.as_str(), end.report.as_slice())?;
         self.rename(FileKind::Part, FileKind::Report)
     }
 
-    fn append_row(&self) -> io::Result<()> {
+    fn append_row(&mut self) -> io::Result<()> {
+        self.touched = None;
+        self.row = Durability::Written;
         let end = self.end()?;
         append_row(self.rt, self.alloc, self.folder, &end.row)
+    }
+
+    fn sync_row(&mut self) -> io::Result<()> {
+        self.touched = None;
+        sync_rows(self.rt, self.alloc, self.folder)?;
+        self.row = Durability::Synced;
+        Ok(())
+    }
+}
+
+// A row that was found, of which this is known.
+fn known_row(found: RowState, known: Durability) -> RowState
+    ensures { result ≡ known_row found known }
+{
+    match found {
+        RowState::Missing => RowState::Missing,
+        RowState::Cut => RowState::Cut,
+        RowState::Written => match known {
+            Durability::Written => RowState::Written,
+            Durability::Synced => RowState::Synced,
+        },
+        RowState::Synced => RowState::Synced,
     }
 }
 
@@ -166,19 +234,33 @@ impl<'r, 'f, 'e, R: Files<File = File>> OneBook<'r, 'f, 'e, R> {
 fn text_state(kind: Option<FileKind>, read: TextRead) -> BookText
     ensures { result ≡ text_state kind read }
 {
-    let is_run = read == TextRead::Run;
     match kind {
-        Some(FileKind::Open) => {
-            if read == TextRead::Headless {
-                BookText::Headless
-            } else {
-                BookText::Open { is_run }
-            }
-        }
-        Some(FileKind::Audit) => BookText::Closed { is_run },
-        Some(FileKind::Lengths) => BookText::Closed { is_run },
+        Some(FileKind::Open) => open_text(read),
+        Some(FileKind::Audit) => closed_text(read),
+        Some(FileKind::Lengths) => closed_text(read),
         Some(FileKind::Bad) => BookText::Bad,
         _ => BookText::Absent,
+    }
+}
+
+fn open_text(read: TextRead) -> BookText
+    ensures { result ≡ open_text read }
+{
+    match read {
+        TextRead::Headless => BookText::Headless,
+        TextRead::Unpriced => BookText::Unpriced,
+        TextRead::NoRun => BookText::Open { is_run: false },
+        TextRead::Run => BookText::Open { is_run: true },
+    }
+}
+
+fn closed_text(read: TextRead) -> BookText
+    ensures { result ≡ closed_text read }
+{
+    match read {
+        TextRead::Unpriced => BookText::Unpriced,
+        TextRead::Headless | TextRead::NoRun => BookText::Closed { is_run: false },
+        TextRead::Run => BookText::Closed { is_run: true },
     }
 }
 

@@ -6,7 +6,7 @@ use crate::book_end::BookEnd;
 use crate::book_files::{OneBook, TextRead};
 use crate::folder::Folder;
 use crate::open_text::OpenText;
-use share_archive::{Unsettled, settle};
+use share_archive::{Durability, Unsettled, settle};
 use share_catalog::Closing;
 use std::alloc::Global;
 use std::fs::{File, Files};
@@ -15,16 +15,19 @@ use std::io::ErrorKind;
 
 impl Folder {
     /// Closes a book. Its text is made durable and takes the name of a closed book. Then its report and its row are
-    /// written, and the file of its tariffs is removed. Each step is durable before the next. If that fails, it may be
-    /// called again, and goes on where it failed.
+    /// written. Each step is durable before the next. If that fails, it may be called again, and goes on where it
+    /// failed.
     pub fn close<R: Files<File = File>>(
         &self,
         rt: &R,
         alloc: Global,
-        text: &OpenText,
+        text: &mut OpenText,
         end: &BookEnd,
     ) -> io::Result<()> {
-        text.sync()?;
+        // This handle has seen each failure to write the text, and a new one may not.
+        if text.sync().is_err() {
+            text.doubt();
+        }
         let mut files = OneBook {
             rt,
             alloc,
@@ -32,8 +35,16 @@ impl Folder {
             number: text.number(),
             read: read_of(end.row.why),
             end: Some(end),
+            bytes: Durability::Written,
+            row: Durability::Written,
+            is_doubted: text.is_doubted(),
+            touched: None,
         };
-        settle_files(&mut files)
+        let settled = settle_files(&mut files);
+        if files.is_doubted {
+            text.doubt();
+        }
+        settled
     }
 }
 
@@ -52,9 +63,14 @@ pub(crate) fn settle_files<R: Files<File = File>>(
 pub(crate) fn read_of(why: Closing) -> TextRead
     ensures { result ≡ read_of why }
 {
-    if why == Closing::Bad {
-        TextRead::NoRun
-    } else {
-        TextRead::Run
+    match why {
+        Closing::Bad => TextRead::NoRun,
+        Closing::NoBook => TextRead::Headless,
+        Closing::Spent
+        | Closing::Period
+        | Closing::Reload
+        | Closing::Rotate
+        | Closing::End
+        | Closing::Cut => TextRead::Run,
     }
 }

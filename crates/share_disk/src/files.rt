@@ -53,6 +53,11 @@ fn write_durably(file: File, bytes: &[u8]) -> io::Result<()> {
     file.sync_all()
 }
 
+/// Opens a file to read it and to write into it. It is an error if there is no file.
+pub(crate) fn open_both<R: Files<File = File>>(rt: &R, path: &str) -> io::Result<File> {
+    OpenOptions::new().read(true).write(true).open(rt, path)
+}
+
 /// Renames a file. It is an error if something has the new path already: the lock of the folder keeps others away.
 pub(crate) fn rename_new<R: Files>(rt: &R, from: &str, to: &str) -> io::Result<()> {
     if is_there(rt, to)? {

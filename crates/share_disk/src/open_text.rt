@@ -19,6 +19,8 @@ pub struct OpenText {
     file: File,
     hasher: Sha256,
     number: u64,
+    // Whether a sync of the file has failed.
+    is_doubted: bool,
 }
 
 impl Model for OpenText {
@@ -39,6 +41,7 @@ impl OpenText {
             file,
             hasher: Sha256::new(),
             number,
+            is_doubted: false,
         }
     }
 
@@ -65,6 +68,18 @@ impl OpenText {
     /// Makes what was written durable.
     pub fn sync(&self) -> io::Result<()> {
         self.file.sync_data()
+    }
+
+    /// Notes that a sync of the file has failed. A later sync that succeeds does not show that the bytes are durable.
+    pub fn doubt(&mut self)
+        ensures { self.new ≡ self.old }
+    {
+        self.is_doubted = true;
+    }
+
+    // Whether a sync of the file has failed.
+    pub(crate) fn is_doubted(&self) -> bool {
+        self.is_doubted
     }
 
     /// Another handle of the file, by which another thread makes it durable.

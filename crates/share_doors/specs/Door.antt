@@ -28,6 +28,9 @@ new_door tenant flow = record {
 }
 
 -- counts stay at the greatest one
+abbrev pub more : ℕ → ℕ → ℕ
+more m n = min (n + m) (2 ^ 64 - 1)
+
 abbrev pub one_more : ℕ → ℕ
 one_more n = min (n + 1) (2 ^ 64 - 1)
 

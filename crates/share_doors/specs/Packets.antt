@@ -1,5 +1,5 @@
 -- The outcome of the packets of a packet port.
-use Rattle.std.specs.Prelude.{◌≡◌, ℕ, true, false, List, length, if◌then◌else◌}
+use Rattle.std.specs.Prelude.{◌≡◌, ◌⊎◌, ◌≤◌, ℕ, ◌+◌, ◌-◌, ◌^◌, min, true, false, List, length, is_some, if◌then◌else◌}
 use Rattle.share_base.specs.Body.{is_payload_length}
 use Rattle.share_model.specs.funding.Graph.{NameBytes}
 use Rattle.share_book.specs.Audited.{Audited}
@@ -8,6 +8,7 @@ use Rattle.share_book.specs.declared.book.Taken.{Taken}
 use Rattle.share_sockets.specs.declared.received.Received.{Received}
 use Rattle.share_sockets.specs.declared.received.Received.TheVariants as came
 use Rattle.share_doors.specs.Door.{one_more}
+use Rattle.share_doors.specs.declared.packet_port.PacketPort.{PacketPort}
 use Rattle.share_doors.specs.declared.sender.Came.{Came}
 use Rattle.share_doors.specs.declared.sender.Came.TheVariants.{Packet, Dropped, Nothing, More, Over}
 
@@ -51,6 +52,22 @@ DropsOne old Dropped new = ReadsMore old new
 DropsOne old Nothing new = ReadsNone old new
 DropsOne old More new = ReadsNone old new
 DropsOne old (Over why) new = ReadsNone old new
+
+-- nothing more is read of a port before its socket is ready again, or nothing more comes of it
+abbrev pub IsEmpty : PacketPort → Type 0
+IsEmpty p = (p.is_readable ≡ false) ⊎ (is_some p.end ≡ true)
+
+-- its socket was read once more, unless it is empty
+abbrev pub AsksOne : PacketPort → Came → PacketPort → Type 0
+AsksOne old (Packet n) new = new.reads ≡ one_more old.reads
+AsksOne old Dropped new = new.reads ≡ one_more old.reads
+AsksOne old Nothing new = new.is_readable ≡ false
+AsksOne old More new = new.reads ≡ one_more old.reads
+AsksOne old (Over why) new = is_some new.end ≡ true
+
+-- its socket was read until it was empty, or 4096 times
+abbrev pub IsEmptied : PacketPort → PacketPort → Type 0
+IsEmptied old new = IsEmpty new ⊎ (min (old.reads + 4096) (2 ^ 64 - 1) ≤ new.reads)
 
 -- this packet went into the book, and has n bytes; or it is dropped without memory, and no other answer comes
 abbrev pub PortTakes : NameBytes → List ℕ → Audited → Came → Audited → Type 0

@@ -64,3 +64,14 @@ pub(crate) fn over_port(ports: &Slab<PacketPort>) -> Option<usize> {
     }
     None
 }
+
+/// Removes and returns the number of packets of all ports that found no memory.
+pub(crate) fn take_refused(ports: &mut Slab<PacketPort>) -> u64 {
+    let mut refused: u64 = 0;
+    'keys: for key in 0..ports.capacity() {
+        if let Some(port) = ports.get_mut(key) {
+            refused = refused.saturating_add(port.take_refused());
+        }
+    }
+    refused
+}

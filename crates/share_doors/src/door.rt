@@ -1,11 +1,12 @@
 //! The connections and the packet ports of one tenant, which are served in turn.
 ghost use Rattle.std.specs.Prelude.{◌≡◌, ◌+◌, ◌<◌, ◌≤◌, true, false};
-ghost use Rattle.share_doors.specs.Door.{counted, dropped_one, new_door, one_more};
+ghost use Rattle.share_doors.specs.Door.{counted, dropped_one, more, new_door, one_more};
 ghost use Rattle.share_doors.specs.Fills.{Drops, Fills};
+ghost use Rattle.share_doors.specs.Packets.{IsEmptied, IsEmpty};
 ghost use Rattle.share_doors.specs.Takes.{TakesOnly, can_take};
 ghost use Rattle.share_doors.specs.declared.door.Filled.TheVariants.{Full};
 
-use crate::connections::{Looked, count_at, end_all, look_over, over_port};
+use crate::connections::{Looked, count_at, end_all, look_over, over_port, take_refused};
 use crate::deliveries::Deliveries;
 use crate::packet_port::{ClosedPort, PacketPort};
 use crate::packet_reader::PacketReader;
@@ -339,6 +340,7 @@ impl Door {
         self.may_be_over |= sender.may_be_over();
         match came {
             Came::Packet(bytes) => {
+                sender.count_packet();
                 self.count(bytes);
                 true
             }
@@ -434,14 +436,15 @@ impl Door {
     }
 
     /// Gives a packet to each port, and to each connection as a record. One that does not take it at once loses it, and
-    /// so does a tenant with neither.
-    pub fn deliver(&mut self, payload: &[u8])
-        ensures { self.new ≡ record self.old { given = one_more self.old.given; lost = self.new.lost } }
+    /// so does a tenant with neither. Returns the number of losses.
+    pub fn deliver(&mut self, payload: &[u8]) -> u64
+        ensures { self.new
+            ≡ record self.old { given = one_more self.old.given; lost = more result self.old.lost } }
     {
-        self.deliveries
-            .give(&mut self.ports, &mut self.senders, self.tenant, payload);
-        // A descriptor may have failed.
+        // A descriptor may fail.
         self.may_have_closed = true;
+        self.deliveries
+            .give(&mut self.ports, &mut self.senders, self.tenant, payload)
     }
 
     /// Removes a packet port that goes to another tenant, or is gone. Packets that wait in its socket are dropped.
@@ -456,9 +459,10 @@ impl Door {
 
     // Drops what waits in the socket of a port.
     fn drop_waiting(&mut self, port: &mut PacketPort)
-        ensures { Drops self.old self.new }
+        ensures dropped { Drops self.old self.new }
+        ensures emptied { IsEmptied port.old port.new }
     {
-        'packets: for _ in 0..WAITING {
+        'packets: for turn in 0..WAITING {
             if !self.drop_packet(port) {
                 break;
             }
@@ -467,7 +471,9 @@ impl Door {
 
     // Drops the next packet of a port. Returns false if it has none.
     fn drop_packet(&mut self, port: &mut PacketPort) -> bool
-        ensures { Drops self.old self.new }
+        ensures dropped { Drops self.old self.new }
+        ensures more { result ≡ true → port.new.reads ≡ one_more port.old.reads }
+        ensures none { result ≡ false → IsEmpty port.new }
     {
         match port.discard(&mut self.reader) {
             Came::Packet(_) => unreachable!(),
@@ -479,6 +485,13 @@ impl Door {
             Came::Nothing => false,
             Came::Over(_) => false,
         }
+    }
+
+    /// Removes and returns the number of packets of its packet ports that found no memory, and were dropped.
+    pub fn take_refused(&mut self) -> u64
+        ensures { self.new ≡ self.old }
+    {
+        take_refused(&mut self.ports)
     }
 
     /// Closes a packet port that is over, and says which it was. `None` if no port is over.

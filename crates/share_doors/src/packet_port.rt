@@ -1,9 +1,9 @@
 //! One socket or descriptor at which packets of a tenant come in, and go out.
-ghost use Rattle.std.specs.Prelude.{◌≡◌, true, length};
+ghost use Rattle.std.specs.Prelude.{◌≡◌, ◌≢◌, false, is_some, true, length, IfOk, IfErr};
 ghost use Rattle.std.specs.IoError.{error_kind};
 ghost use Rattle.share_base.specs.Body.{is_payload_length};
 ghost use Rattle.share_doors.specs.Door.{one_more};
-ghost use Rattle.share_doors.specs.Packets.{DropsOne, PortGives, PortTakes, ReadsOne, came_of};
+ghost use Rattle.share_doors.specs.Packets.{AsksOne, DropsOne, PortGives, PortTakes, ReadsOne, came_of};
 ghost use Rattle.share_doors.specs.Takes.{can_take};
 
 use crate::packet_reader::PacketReader;
@@ -45,8 +45,13 @@ pub struct PacketPort {
     is_readable: bool,
     // Why nothing more comes of it, if so.
     end: Option<PortEnd>,
-    // The number of packets that it was given.
+    // The number of packets that it was given, and whether it took the last of them.
     given: u64,
+    has_taken: bool,
+    // The number of packets that found no memory.
+    refused: u64,
+    // The number of times that its socket was read.
+    reads: u64,
 }
 
 impl PacketPort {
@@ -59,6 +64,9 @@ impl PacketPort {
             is_readable: true,
             end: None,
             given: 0,
+            has_taken: true,
+            refused: 0,
+            reads: 0,
         }
     }
 
@@ -69,7 +77,9 @@ impl PacketPort {
     }
 
     /// Whether nothing more comes of it.
-    pub(crate) fn is_over(&self) -> bool {
+    pub(crate) fn is_over(&self) -> bool
+        ensures { result ≡ is_some self.now.end }
+    {
         self.end.is_some()
     }
 
@@ -104,7 +114,11 @@ impl PacketPort {
         ensures plan { book.new.plan ≡ book.old.plan }
     {
         match self.receive(reader) {
-            Came::Packet(_) => put(reader, alloc, tenant, book),
+            Came::Packet(_) => {
+                let came = put(reader, alloc, tenant, book);
+                self.note_put(came);
+                came
+            }
             Came::Dropped => Came::Dropped,
             Came::Nothing => Came::Nothing,
             Came::More => Came::More,
@@ -112,13 +126,36 @@ impl PacketPort {
         }
     }
 
+    // A packet that is a payload was put into the book, or found no memory.
+    fn note_put(&mut self, came: Came)
+        ensures taken { came ≢ Came.Dropped → self.new.refused ≡ self.old.refused }
+        ensures refused { came ≡ Came.Dropped → self.new.refused ≡ one_more self.old.refused }
+        ensures given { self.new.given ≡ self.old.given }
+    {
+        if came == Came::Dropped {
+            self.refused = self.refused.saturating_add(1);
+        }
+    }
+
+    /// Removes and returns the number of its packets that found no memory.
+    pub(crate) fn take_refused(&mut self) -> u64
+        ensures count { result ≡ self.old.refused }
+        ensures none { self.new.refused ≡ 0 }
+    {
+        let refused = self.refused;
+        self.refused = 0;
+        refused
+    }
+
     /// Reads its next packet, if one may be there. One that is no payload is dropped.
     pub(crate) fn receive(&mut self, reader: &mut PacketReader) -> Came
-        ensures { ReadsOne reader.old result reader.new }
+        ensures read { ReadsOne reader.old result reader.new }
+        ensures asked { AsksOne self.old result self.new }
     {
         if !self.is_readable {
             return Came::Nothing;
         }
+        self.reads = self.reads.saturating_add(1);
         match reader.receive(&self.socket) {
             Ok(Received::Packet(length, sender)) => {
                 self.note_sender(sender);
@@ -136,7 +173,8 @@ impl PacketPort {
 
     /// Reads its next packet, and drops it. Returns `Dropped` if it has one.
     pub(crate) fn discard(&mut self, reader: &mut PacketReader) -> Came
-        ensures { DropsOne reader.old result reader.new }
+        ensures dropped { DropsOne reader.old result reader.new }
+        ensures asked { AsksOne self.old result self.new }
     {
         match self.receive(reader) {
             Came::Packet(_) => Came::Dropped,
@@ -144,7 +182,9 @@ impl PacketPort {
         }
     }
 
-    fn note_sender(&mut self, sender: Option<SocketAddr>) {
+    fn note_sender(&mut self, sender: Option<SocketAddr>)
+        ensures { self.new.reads ≡ self.old.reads }
+    {
         if sender.is_some() {
             self.sender = sender;
         }
@@ -152,7 +192,8 @@ impl PacketPort {
 
     // Nothing more comes of it: its descriptor has ended.
     fn ended(&mut self) -> Came
-        ensures { result ≡ Came.Over ClosedWhy.Ended }
+        ensures came { result ≡ Came.Over ClosedWhy.Ended }
+        ensures end { is_some self.new.end ≡ true }
     {
         self.end = Some(PortEnd::Ended);
         Came::Over(ClosedWhy::Ended)
@@ -162,6 +203,7 @@ impl PacketPort {
     fn failed(&mut self, fault: io::Error) -> Came
         ensures came { result ≡ Came.Over (ClosedWhy.Failed (error_kind fault)) }
         ensures given { self.new.given ≡ self.old.given }
+        ensures end { is_some self.new.end ≡ true }
     {
         let kind = fault.kind();
         self.end = Some(PortEnd::Failed(fault));
@@ -174,15 +216,35 @@ impl PacketPort {
     }
 
     /// Gives a packet to its descriptor, to its last sender, or to the address that it is connected to. Returns whether
-    /// it was taken.
+    /// it was taken: a port that is over takes none.
     pub(crate) fn deliver(&mut self, payload: &[u8]) -> bool
-        ensures { self.new.given ≡ one_more self.old.given }
+        ensures given { self.new.given ≡ one_more self.old.given }
+        ensures taken { result ≡ self.new.has_taken }
+        ensures over { is_some self.new.end ≡ true → result ≡ false }
     {
         self.given = self.given.saturating_add(1);
-        if self.is_over() {
-            return false;
-        }
-        match self.socket.send(payload, self.sender) {
+        self.has_taken = !self.is_over() && self.send(payload);
+        self.has_taken
+    }
+
+    // Sends a packet. Returns whether it was taken.
+    fn send(&mut self, payload: &[u8]) -> bool
+        ensures given { self.new.given ≡ self.old.given }
+        ensures over { is_some self.old.end ≡ false → is_some self.new.end ≡ true → result ≡ false }
+    {
+        let answer = self.socket.send(payload, self.sender);
+        self.note_answer(answer)
+    }
+
+    // Returns whether a packet was taken, by the answer to its write. After a failure nothing more comes of the port.
+    fn note_answer(&mut self, answer: io::Result<bool>) -> bool
+        ensures given { self.new.given ≡ self.old.given }
+        ensures taken { IfOk answer (λ was_taken. result ≡ was_taken) }
+        ensures lost { IfErr answer (λ _. result ≡ false) }
+        ensures open { IfOk answer (λ _. is_some self.new.end ≡ is_some self.old.end) }
+        ensures end { IfErr answer (λ _. is_some self.new.end ≡ true) }
+    {
+        match answer {
             Ok(was_taken) => was_taken,
             Err(fault) => {
                 self.failed(fault);

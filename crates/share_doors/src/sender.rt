@@ -61,11 +61,13 @@ pub enum Came {
     Over(ClosedWhy),
 }
 
-/// A connection that was closed: the token that its events carried, the port by which it came, and why.
+/// A connection that was closed: the token that its events carried, the port by which it came, the number of packets
+/// that were taken of it, and why.
 #[derive(Clone, Copy, Debug, PartialEq, Eq)]
 pub struct ClosedSender {
     pub token: usize,
     pub port: usize,
+    pub packets: u64,
     pub why: ClosedWhy,
 }
 
@@ -86,8 +88,11 @@ pub struct Sender {
     // The record that it is being given, and whether it takes more.
     outgoing: Outgoing,
     takes_records: bool,
-    // The number of packets that it was given.
+    // The number of packets that it was given, and whether it took the last of them.
     given: u64,
+    has_taken: bool,
+    // The number of packets that were taken of it.
+    packets: u64,
 }
 
 impl Drop for Sender {
@@ -104,6 +109,8 @@ impl Drop for Sender {
             outgoing,
             takes_records: _,
             given: _,
+            has_taken: _,
+            packets: _,
         } = self;
         drop(stream);
         drop(records);
@@ -134,6 +141,8 @@ impl Sender {
                 outgoing: Outgoing::new(alloc),
                 takes_records: true,
                 given: 0,
+                has_taken: true,
+                packets: 0,
             }),
         }
     }
@@ -168,8 +177,16 @@ impl Sender {
         Some(ClosedSender {
             token: self.token,
             port: self.port,
+            packets: self.packets,
             why,
         })
+    }
+
+    /// A packet was taken of it.
+    pub(crate) fn count_packet(&mut self)
+        ensures { self.new.packets ≡ one_more self.old.packets }
+    {
+        self.packets = self.packets.saturating_add(1);
     }
 
     /// Its socket was reported ready, and if so, that the far end sends no more.
@@ -316,9 +333,19 @@ impl Sender {
     /// the record was begun. Its rest is kept, and goes before all others.
     pub fn deliver(&mut self, tenant: Name, payload: &[u8]) -> bool
         ensures given { self.new.given ≡ one_more self.old.given }
+        ensures taken { result ≡ self.new.has_taken }
         ensures sends { Sends tenant payload.now self.old.outgoing result self.new.outgoing }
     {
         self.given = self.given.saturating_add(1);
+        self.has_taken = self.send(tenant, payload);
+        self.has_taken
+    }
+
+    // Writes the rest of the record before, and begins one of the packet if nothing of it is left.
+    fn send(&mut self, tenant: Name, payload: &[u8]) -> bool
+        ensures given { self.new.given ≡ self.old.given }
+        ensures sends { Sends tenant payload.now self.old.outgoing result self.new.outgoing }
+    {
         self.go_on();
         if self.is_over() || !self.takes_records || !self.outgoing.is_empty() {
             return false;

@@ -1,7 +1,9 @@
 //! Listeners, and the connections that wait at them.
 
+use crate::ports::PortAddress;
 use share_news::News;
-use share_sockets::{Listener, Stream};
+use share_sockets::{Access, Listener, Stream};
+use std::fs::Files;
 use std::io::{Eprint, Error, ErrorKind};
 use std::net::SocketAddr;
 use std::time::{Clock, Duration, Instant};
@@ -40,6 +42,20 @@ impl Acceptor {
             listener,
             is_ready: true,
             retry: None,
+        }
+    }
+
+    /// Gives the file of a Unix socket, which is at this address, another mode and group.
+    pub fn set_access(&self, files: &impl Files, address: &PortAddress, access: Access) {
+        if let PortAddress::Unix(path) = address {
+            let _ = self.listener.set_access(files, path.as_str(), access);
+        }
+    }
+
+    /// Removes the file of a Unix socket, which is at this address.
+    pub fn remove_file(&self, files: &impl Files, address: &PortAddress) {
+        if let PortAddress::Unix(path) = address {
+            let _ = self.listener.remove_file(files, path.as_str());
         }
     }
 

@@ -1,18 +1,20 @@
 //! The ports of all tenants, and the connections that came by them.
 
-use crate::ports::{Opening, Port, PortAddress, remove_file};
+use crate::ports::{Opening, Port, PortAddress};
 use crate::sources::{Source, Sources};
 use mio::{Interest, Registry, Token};
 use share_base::{FlowNo, Name};
 use share_book::Book;
-use share_doors::{ClosedPort, ClosedSender, Door, Filled, MAX_SENDERS, PacketPort, Sender};
-use share_news::News;
+use share_doors::{ClosedPort, Door, Filled, MAX_SENDERS, PacketPort, Sender};
+use share_news::{Caller, News};
 use share_sockets::{PacketSocket, Stream};
 use share_tariff::PlainShelf;
 use slab::Slab;
 use std::alloc::{AllocError, Global};
 use std::fs::Files;
-use std::io::Eprint;
+use std::io;
+use std::io::{Eprint, Error, ErrorKind};
+use std::net::SocketAddr;
 use std::time::{Clock, Instant};
 
 /// The number of connections accepted at a port in a round.
@@ -85,9 +87,16 @@ impl Doorways {
         self.doors.get(self.door_of(flow)?)
     }
 
-    /// Adds a port. Returns its key, or `None` without memory for it.
-    pub(crate) fn add_port(&mut self, port: Port) -> Option<usize> {
-        self.ports.insert(port).ok()
+    /// Adds a port. Returns its key, or `None` without memory for it: then it is closed, and its file removed.
+    pub(crate) fn add_port(&mut self, files: &impl Files, port: Port) -> Option<usize> {
+        match self.ports.insert(port) {
+            Ok(key) => Some(key),
+            Err(refused) => {
+                refused.value.remove_file(files);
+                drop(refused);
+                None
+            }
+        }
     }
 
     /// Adds a socket to the door of a port that has nothing. Returns the port, or `None` without memory for that, and
@@ -119,7 +128,7 @@ impl Doorways {
     pub fn remove_files<R: Files>(&self, rt: &R) {
         for key in 0..self.ports.capacity() {
             if let Some(port) = self.ports.get(key) {
-                remove_file(rt, &port.address);
+                port.remove_file(rt);
             }
         }
     }
@@ -210,27 +219,29 @@ impl Doorways {
         for _ in 0..ACCEPTS {
             match self.next_stream(rt, news, now, port) {
                 None => return false,
-                Some(stream) => self.admit(rt, alloc, registry, sources, news, port, stream),
+                Some((stream, from)) => {
+                    self.admit(rt, alloc, registry, sources, news, port, stream, from)
+                }
             }
         }
         true
     }
 
-    // The next connection that waits at a port.
+    // The next connection that waits at a port, and its address if it came over TCP.
     fn next_stream<R: Clock + Eprint>(
         &mut self,
         rt: &R,
         news: &mut News,
         now: Instant,
         port: usize,
-    ) -> Option<Stream> {
+    ) -> Option<(Stream, Option<SocketAddr>)> {
         let found = self.ports.get_mut(port)?;
         let Opening::Listener(listener) = &mut found.opening else {
             return None;
         };
         listener.tick(now);
         match listener.accept(rt, news, now) {
-            Some((stream, _)) => Some(stream),
+            Some(found) => Some(found),
             None => {
                 self.retry = earlier(self.retry, listener.due());
                 None
@@ -248,6 +259,7 @@ impl Doorways {
         news: &mut News,
         port: usize,
         stream: Stream,
+        from: Option<SocketAddr>,
     ) {
         let Some(opened) = self.ports.get(port) else {
             return;
@@ -259,12 +271,20 @@ impl Doorways {
             news.tell_too_many(rt, door.tenant());
             return;
         }
+        let caller = Caller::Tenant(door.tenant());
         let Some(token) = sources.add(Source::Port(port)) else {
+            news.tell_not_joined(rt, caller, &no_memory());
             return;
         };
         match join(alloc, registry, token, door, port, stream) {
-            None => drop(sources.remove(token)),
-            Some(key) => sources.set(token, Source::Sender { port, key }),
+            Err(fault) => {
+                drop(sources.remove(token));
+                news.tell_not_joined(rt, caller, &fault);
+            }
+            Ok(key) => {
+                sources.set(token, Source::Sender { port, key, from });
+                news.tell_client(rt, door.tenant(), from, &opened.address);
+            }
         }
     }
 
@@ -314,7 +334,8 @@ impl Doorways {
         }
     }
 
-    /// Closes the connections and the packet ports that are over, and prints why.
+    /// Closes the connections and the packet ports that are over, and prints why. It also prints the number of packets
+    /// that found no memory.
     pub fn close_over<R: Clock + Eprint>(
         &mut self,
         rt: &R,
@@ -323,6 +344,7 @@ impl Doorways {
         news: &mut News,
     ) {
         for key in 0..self.doors.capacity() {
+            self.report_refused(rt, news, key);
             for _ in 0..MAX_SENDERS {
                 if !self.close_one(rt, sources, news, key) {
                     break;
@@ -333,6 +355,17 @@ impl Doorways {
                     break;
                 }
             }
+        }
+    }
+
+    // Prints the number of packets of a door that found no memory.
+    fn report_refused<R: Clock + Eprint>(&mut self, rt: &R, news: &mut News, key: usize) {
+        let Some(door) = self.doors.get_mut(key) else {
+            return;
+        };
+        let refused = door.take_refused();
+        if refused > 0 {
+            news.tell_no_memory(rt, door.tenant(), refused);
         }
     }
 
@@ -363,7 +396,7 @@ impl Doorways {
     }
 
     // Closes a connection of a door that is over. Returns false if none is.
-    fn close_one<R: Clock + Eprint>(
+    pub(crate) fn close_one<R: Clock + Eprint>(
         &mut self,
         rt: &R,
         sources: &mut Sources,
@@ -373,11 +406,20 @@ impl Doorways {
         let Some(door) = self.doors.get_mut(key) else {
             return false;
         };
-        let Some(ClosedSender { token, why, .. }) = door.close_over() else {
+        let Some(closed) = door.close_over() else {
             return false;
         };
-        drop(sources.remove(Token(token)));
-        news.tell_closed(rt, door.tenant(), why);
+        let tenant = door.tenant();
+        news.tell_closed(rt, tenant, closed.why);
+        let from = match sources.remove(Token(closed.token)) {
+            Some(Source::Sender { from, .. }) => from,
+            _ => None,
+        };
+        let port = match self.ports.get(closed.port) {
+            Some(port) => Some(&port.address),
+            None => None,
+        };
+        news.tell_client_gone(rt, tenant, from, port, &closed);
         true
     }
 
@@ -410,6 +452,11 @@ fn earlier(one: Option<Instant>, other: Option<Instant>) -> Option<Instant> {
     }
 }
 
+/// The fault of a call that is refused memory.
+pub fn no_memory() -> Error {
+    Error::from(ErrorKind::OutOfMemory)
+}
+
 // Registers a connection and adds it to a door. Returns its key.
 fn join(
     alloc: Global,
@@ -418,16 +465,12 @@ fn join(
     door: &mut Door,
     port: usize,
     stream: Stream,
-) -> Option<usize> {
+) -> io::Result<usize> {
     let mut stream = stream;
     let both = Interest::READABLE | Interest::WRITABLE;
-    if stream.register(registry, token, both).is_err() {
-        return None;
-    }
+    stream.register(registry, token, both)?;
     // Records that it is given are small.
     let _ = stream.set_nodelay(true);
-    match Sender::new(alloc, stream, door.tenant(), token.0, port) {
-        Err(_) => None,
-        Ok(sender) => door.add(sender),
-    }
+    let sender = Sender::new(alloc, stream, door.tenant(), token.0, port)?;
+    door.add(sender).ok_or(no_memory())
 }

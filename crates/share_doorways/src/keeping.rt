@@ -1,22 +1,26 @@
 //! Ports and doors when the file was read anew.
 
 use crate::doorways::Doorways;
-use crate::ports::{Opening, PortAddress, remove_file};
+use crate::opening::access_of;
+use crate::ports::{Opening, PortAddress};
 use crate::sources::Sources;
-use mio::{Registry, Token};
+use mio::Registry;
 use share_base::FlowNo;
-use share_doors::{ClosedSender, MAX_SENDERS};
+use share_doors::MAX_SENDERS;
 use share_gateway::Tenant;
+use share_news::News;
 use share_settings::{Settings, TenantPorts};
-use share_sockets::{Listener, PacketSocket};
+use share_sockets::{Access, PacketSocket};
 use std::alloc::Global;
 use std::fs::Files;
+use std::io::Eprint;
+use std::time::Clock;
 
-/// The flow that a port belongs to, and the mode of its file.
+/// The flow that a port belongs to, and the mode and the group of its file.
 #[derive(Clone, Copy, Debug)]
 struct Owner {
     flow: FlowNo,
-    mode: u32,
+    access: Access,
 }
 
 // The owner of a port in these settings, if it is in them.
@@ -37,7 +41,7 @@ fn owner_of(settings: &Settings, address: &PortAddress) -> Option<Owner> {
 fn owner_by(tenant: &Tenant, ports: &TenantPorts) -> Owner {
     Owner {
         flow: FlowNo(tenant.flow),
-        mode: ports.mode,
+        access: access_of(ports.mode, ports.group),
     }
 }
 
@@ -80,8 +84,8 @@ impl Doorways {
         let Some(port) = self.ports.get(key) else {
             return;
         };
-        if let PortAddress::Unix(path) = &port.address {
-            let _ = Listener::set_mode(rt, path.as_str(), owner.mode);
+        if let Opening::Listener(acceptor) = &port.opening {
+            acceptor.set_access(rt, &port.address, owner.access);
         }
         if port.door != door {
             self.move_port(alloc, key, door);
@@ -121,29 +125,40 @@ impl Doorways {
     }
 
     /// Removes the doors of flows that no tenant has.
-    pub fn keep_doors(&mut self, sources: &mut Sources, tenants: &[Tenant]) {
+    pub fn keep_doors<R: Clock + Eprint>(
+        &mut self,
+        rt: &R,
+        sources: &mut Sources,
+        news: &mut News,
+        tenants: &[Tenant],
+    ) {
         for key in 0..self.doors.capacity() {
             let Some(door) = self.doors.get(key) else {
                 continue;
             };
             if !has_flow(tenants, door.flow()) {
-                self.remove_door(sources, key);
+                self.remove_door(rt, sources, news, key);
             }
         }
     }
 
     /// Removes a door, whose connections are closed.
-    pub fn remove_door(&mut self, sources: &mut Sources, key: usize) {
+    pub fn remove_door<R: Clock + Eprint>(
+        &mut self,
+        rt: &R,
+        sources: &mut Sources,
+        news: &mut News,
+        key: usize,
+    ) {
         let Some(door) = self.doors.get_mut(key) else {
             return;
         };
         let flow = door.flow();
         door.close_all();
         for _ in 0..self.ports.capacity().saturating_mul(MAX_SENDERS) {
-            let Some(ClosedSender { token, .. }) = door.close_over() else {
+            if !self.close_one(rt, sources, news, key) {
                 break;
-            };
-            drop(sources.remove(Token(token)));
+            }
         }
         drop(self.doors.try_remove(key));
         self.set_flow(flow, None);
@@ -165,7 +180,7 @@ impl Doorways {
             return;
         };
         self.close_port(port.door, key);
-        remove_file(rt, &port.address);
+        port.remove_file(rt);
         drop(sources.remove(port.token));
     }
 }

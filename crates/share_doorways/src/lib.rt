@@ -10,7 +10,7 @@ mod ports;
 mod sources;
 
 pub use acceptor::Acceptor;
-pub use doorways::Doorways;
-pub use opening::{not_opened, open_doors, open_port, token_of};
-pub use ports::{PortAddress, address_of_control, listen, remove_file};
+pub use doorways::{Doorways, no_memory};
+pub use opening::{access_of, not_opened, open_doors, open_port, token_of};
+pub use ports::{PortAddress, address_of_control, listen};
 pub use sources::{Source, Sources};

@@ -9,6 +9,7 @@ use share_base::FlowNo;
 use share_doors::Door;
 use share_news::NotRun;
 use share_settings::{Settings, TenantPorts};
+use share_sockets::Access;
 use std::alloc::Global;
 use std::fs::Files;
 use std::io::Error;
@@ -39,28 +40,52 @@ pub fn open_port<R: Files + Net>(
     doorways: &mut Doorways,
     door: usize,
     address: &PortAddress,
-    mode: u32,
+    access: Access,
 ) -> Result<usize, NotRun> {
     let token = token_of(sources, Source::ControlListener)?;
-    let opened = match open_at(rt, registry, token, address, mode) {
-        Ok(opened) => opened,
+    let opened = match open_at(rt, registry, token, address, access) {
+        Ok(opened) => add_opened(rt, alloc, doorways, opened, address, token, door),
         Err(fault) => {
             drop(sources.remove(token));
             return Err(not_opened(alloc, address, fault));
         }
     };
-    let address = address.copy(alloc)?;
-    match add_port(alloc, doorways, opened, address, token, door) {
+    match opened {
         Some(port) => {
             sources.set(token, Source::Port(port));
             Ok(port)
         }
-        None => Err(NotRun::NoMemory),
+        None => {
+            drop(sources.remove(token));
+            Err(NotRun::NoMemory)
+        }
     }
 }
 
-// Adds what was opened at an address. Returns its key.
-fn add_port(
+// Adds what was opened at an address. Returns its key, or `None` without memory for it: then it is closed, and the file
+// of its socket removed.
+fn add_opened<R: Files>(
+    rt: &R,
+    alloc: Global,
+    doorways: &mut Doorways,
+    opened: Opened,
+    address: &PortAddress,
+    token: Token,
+    door: usize,
+) -> Option<usize> {
+    match address.copy(alloc) {
+        Ok(address) => add_port(rt, alloc, doorways, opened, address, token, door),
+        Err(_) => {
+            opened.remove_file(rt, address);
+            drop(opened);
+            None
+        }
+    }
+}
+
+// Adds what was opened as a port of this address. Returns its key.
+fn add_port<R: Files>(
+    rt: &R,
     alloc: Global,
     doorways: &mut Doorways,
     opened: Opened,
@@ -69,21 +94,33 @@ fn add_port(
     door: usize,
 ) -> Option<usize> {
     match opened {
-        Opened::Listener(listener) => doorways.add_port(Port {
-            address,
-            opening: Opening::Listener(Acceptor::new(listener)),
-            token,
-            door,
-        }),
+        Opened::Listener(listener) => {
+            let port = Port {
+                address,
+                opening: Opening::Listener(Acceptor::new(listener)),
+                token,
+                door,
+            };
+            doorways.add_port(rt, port)
+        }
         Opened::Packets(socket) => {
-            let port = doorways.add_port(Port {
+            let port = Port {
                 address,
                 opening: Opening::Closed,
                 token,
                 door,
-            })?;
+            };
+            let port = doorways.add_port(rt, port)?;
             doorways.add_socket(alloc, port, socket)
         }
+    }
+}
+
+/// The users whom a mode and a group of a file's settings let in.
+pub fn access_of(mode: u32, group: Option<u64>) -> Access {
+    Access {
+        mode,
+        group: group.and_then(|number| u32::try_from(number).ok()),
     }
 }
 
@@ -97,10 +134,11 @@ fn open_ports<R: Files + Net>(
     door: usize,
     ports: &TenantPorts,
 ) -> Result<(), NotRun> {
+    let access = access_of(ports.mode, ports.group);
     for index in 0..ports.ports.len() {
         let address = &ports.ports[index];
         open_port(
-            rt, alloc, registry, sources, doorways, door, address, ports.mode,
+            rt, alloc, registry, sources, doorways, door, address, access,
         )?;
     }
     Ok(())

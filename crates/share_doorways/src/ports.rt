@@ -3,12 +3,12 @@
 use crate::acceptor::Acceptor;
 use mio::{Registry, Token};
 use share_settings::Listener as ListenerAddress;
-use share_sockets::{Listener, PacketSocket};
+use share_sockets::{Access, Listener, PacketSocket};
 use std::alloc::Global;
 use std::fs::Files;
+use std::io;
 use std::io::{Error, ErrorKind};
 use std::net::Net;
-use std::{fs, io};
 
 /// The address of a listener or of a packet port.
 pub type PortAddress = share_settings::Port;
@@ -35,11 +35,29 @@ pub(crate) struct Port {
     pub(crate) door: usize,
 }
 
+impl Port {
+    /// Removes the file of a Unix socket.
+    pub(crate) fn remove_file(&self, files: &impl Files) {
+        if let Opening::Listener(acceptor) = &self.opening {
+            acceptor.remove_file(files, &self.address);
+        }
+    }
+}
+
 /// The socket that was opened at an address.
 #[derive(Drop)]
 pub(crate) enum Opened {
     Listener(Listener),
     Packets(PacketSocket),
+}
+
+impl Opened {
+    /// Removes the file of a Unix socket, which is at this address.
+    pub(crate) fn remove_file(&self, files: &impl Files, address: &PortAddress) {
+        if let (Opened::Listener(listener), PortAddress::Unix(path)) = (self, address) {
+            let _ = listener.remove_file(files, path.as_str());
+        }
+    }
 }
 
 /// Opens a port at an address.
@@ -48,11 +66,11 @@ pub(crate) fn open_at<R: Files + Net>(
     registry: &Registry,
     token: Token,
     address: &PortAddress,
-    mode: u32,
+    access: Access,
 ) -> io::Result<Opened> {
     let socket = match address {
         PortAddress::Tcp(_) | PortAddress::Unix(_) => {
-            let listener = listen(rt, registry, token, address, mode)?;
+            let listener = listen(rt, registry, token, address, access)?;
             return Ok(Opened::Listener(listener));
         }
         PortAddress::Udp(address) => PacketSocket::bind(rt, registry, token, *address)?,
@@ -75,24 +93,17 @@ pub fn listen<R: Files + Net>(
     registry: &Registry,
     token: Token,
     address: &PortAddress,
-    mode: u32,
+    access: Access,
 ) -> io::Result<Listener> {
     let mut listener = match address {
         PortAddress::Tcp(address) => Listener::bind(rt, *address)?,
-        PortAddress::Unix(path) => Listener::bind_path(rt, path.as_str(), mode)?,
+        PortAddress::Unix(path) => Listener::bind_path(rt, path.as_str(), access)?,
         PortAddress::Udp(_) | PortAddress::UdpTo(_) | PortAddress::Descriptor(_) => {
             return Err(Error::from(ErrorKind::Unsupported));
         }
     };
     listener.register(registry, token)?;
     Ok(listener)
-}
-
-/// Removes the file of a Unix socket.
-pub fn remove_file<R: Files>(rt: &R, address: &PortAddress) {
-    if let PortAddress::Unix(path) = address {
-        let _ = fs::remove_file(rt, path.as_str());
-    }
 }
 
 /// The address of a control listener, as that of a port.

@@ -3,6 +3,7 @@
 use mio::Token;
 use slab::Slab;
 use std::alloc::Global;
+use std::net::SocketAddr;
 
 /// The source of an event.
 #[derive(Clone, Copy, Debug, PartialEq, Eq)]
@@ -20,8 +21,12 @@ pub enum Source {
     ControlListener,
     /// The listener of a port, by its key.
     Port(usize),
-    /// A connection that came by a port, by its key among those of its tenant.
-    Sender { port: usize, key: usize },
+    /// A connection that came by a port, by its key among those of its tenant, and its address if it came over TCP.
+    Sender {
+        port: usize,
+        key: usize,
+        from: Option<SocketAddr>,
+    },
     /// A control connection, by its key.
     Control(usize),
     /// The web listener.

@@ -1,8 +1,9 @@
 -- Datagrams that are exactly one frame.
 use Rattle.std.proofs.Common.{◌≡◌, ◌↔◌, ◌+◌, ℕ, Bool, List, [], ◌++◌, length, drop, arith, ◌⊎◌, inl, inr, refl, sym, ap}
-use Rattle.std.proofs.Common.{◌∙◌}
-use Rattle.std.proofs.Common.{subst}
+use Rattle.std.proofs.Common.{◌∙◌, Option, subst}
 use Rattle.std.proofs.lemmas.List.{append-nil, drop_at, length-append, nil_from_length}
+use Rattle.std.specs.declared.net.ip_addr.IpAddr.{IpAddr}
+use Rattle.std.specs.declared.net.socket_addr.SocketAddr.{SocketAddr}
 use Rattle.share_base.specs.declared.version.Version.TheVariants.{Two}
 use Rattle.share_frame.specs.Reading.{BeginsWithFrame}
 use Rattle.share_frame.specs.declared.reading.Field.{Field}
@@ -11,8 +12,8 @@ use Rattle.share_frame.specs.declared.reading.FrameRead2.TheVariants.{Frame, Mor
 use Rattle.share_gateway.specs.Frames.{Framed}
 use Rattle.share_model.proofs.lemmas.link.FrameLemmas.{length-frame, length-header}
 use Rattle.share_model.specs.link.Frame.{frame, header}
-use Rattle.share_downlink.specs.Datagrams.{GivesDatagram, IsFrame, IsFrameTo, IsNoFrame, TakesDatagrams}
-use Rattle.share_downlink.specs.Datagrams.{datagram, from_elsewhere, no_datagram, dropped_one}
+use Rattle.share_downlink.specs.Datagrams.{GivesDatagram, IsFrame, IsFrameTo, IsNoFrame, TakesDatagrams, TakesOne}
+use Rattle.share_downlink.specs.Datagrams.{datagram}
 use Rattle.share_downlink.specs.Given.{counted}
 use Rattle.share_downlink.specs.declared.counts.Counts.{Counts}
 use Rattle.share_downlink.specs.declared.datagrams.Tally.{Tally}
@@ -95,30 +96,11 @@ gives_datagram {T} delivers before after old counts bytes payload flow is_known 
       tally = ap (λ (x : Counts). record old { counts = x }) is;
     })
 
--- datagrams came after others
-pub takes_more : {T : Type 0} (delivers : T → ℕ → List ℕ → Bool → T → Type 0) (t u : T) (x y : Tally)
-    → TakesDatagrams delivers t x u y → (v : T) (z : Tally) → TakesDatagrams delivers u y v z
-    → TakesDatagrams delivers t x v z
-takes_more {T} delivers t u x y first _ _ no_datagram = first
-takes_more {T} delivers t u x y first _ _ (datagram v z later bytes after new gives) =
-    datagram v z (takes_more delivers t u x y first v z later) bytes after new gives
-takes_more {T} delivers t u x y first _ _ (from_elsewhere v z later) =
-    from_elsewhere v z (takes_more delivers t u x y first v z later)
-
--- one came
-pub takes_one : {T : Type 0} (delivers : T → ℕ → List ℕ → Bool → T → Type 0) (t u : T) (x y : Tally)
-    (bytes : List ℕ) → GivesDatagram delivers t x bytes u y → TakesDatagrams delivers t x u y
-takes_one {T} delivers t u x y bytes gives = datagram t x no_datagram bytes u y gives
-
--- one came from elsewhere
-pub takes_elsewhere : {T : Type 0} (delivers : T → ℕ → List ℕ → Bool → T → Type 0) (t : T) (x y : Tally)
-    → y ≡ dropped_one x → TakesDatagrams delivers t x t y
-takes_elsewhere {T} delivers t x y is =
-    subst (λ (z : Tally). TakesDatagrams delivers t x t z) (sym is) (from_elsewhere t x no_datagram)
-
--- the same with other names
-pub takes_same : {T : Type 0} (delivers : T → ℕ → List ℕ → Bool → T → Type 0) (t u v : T) (x y z : Tally)
-    → TakesDatagrams delivers t x u y → v ≡ u → z ≡ y → TakesDatagrams delivers t x v z
-takes_same {T} delivers t u v x y z takes same is =
-    subst (λ (w : T). TakesDatagrams delivers t x w z) (sym same)
-    (subst (λ (w : Tally). TakesDatagrams delivers t x u w) (sym is) takes)
+-- datagrams came, and then one more, of which the same address is asked for
+pub takes_next : {T : Type 0} (delivers : T → ℕ → List ℕ → Bool → T → Type 0) (only : Option IpAddr) (t u : T)
+    (x y : Tally) → TakesDatagrams delivers only t x u y → (from : Option IpAddr) → from ≡ only
+    → (sender : Option SocketAddr) (bytes : List ℕ) (v : T) (z : Tally) → TakesOne delivers from u y sender bytes v z
+    → TakesDatagrams delivers only t x v z
+takes_next {T} delivers only t u x y first from same sender bytes v z one =
+    datagram u y first sender bytes v z
+    (subst (λ (o : Option IpAddr). TakesOne delivers o u y sender bytes v z) same one)

@@ -1,13 +1,22 @@
 -- Frames that come as datagrams.
-use Rattle.std.specs.Prelude.{◌≡◌, ◌⊎◌, ℕ, ◌+◌, Bool, List, length}
+use Rattle.std.specs.Prelude.{◌≡◌, ◌⊎◌, ℕ, ◌+◌, Bool, true, false, List, length, Option}
+use Rattle.std.specs.declared.net.ip_addr.IpAddr.{IpAddr}
+use Rattle.std.specs.declared.net.socket_addr.SocketAddr.{SocketAddr}
 use Rattle.share_base.specs.declared.version.Version.TheVariants.{Two}
 use Rattle.share_gateway.specs.Frames.{Framed}
 use Rattle.share_model.specs.link.Frame.{FitsFrame, frame}
+use Rattle.share_downlink.specs.Addresses.{takes_sender}
 use Rattle.share_downlink.specs.Given.{capped, counted, no_counts}
 use Rattle.share_downlink.specs.declared.datagrams.Tally.{Tally}
 
 abbrev pub no_tally : Tally
 no_tally = record { counts = no_counts; dropped = 0 }
+
+-- the view of a socket for datagrams in contracts: the address from which alone they are taken, if they are limited,
+-- and what it counted
+pub record DatagramsView : Type 0 where
+  pub from : Option IpAddr
+  pub tally : Tally
 
 -- a datagram was dropped
 abbrev pub dropped_one : Tally → Tally
@@ -46,12 +55,25 @@ abbrev pub GivesDatagram : {T : Type 0} → (T → ℕ → List ℕ → Bool →
 GivesDatagram delivers before old bytes after new =
     GivesFrame delivers before old bytes after new ⊎ DropsOther before old bytes after new
 
--- datagrams came one after the other: each gave the packet whose frame it is, or was dropped
-pub data TakesDatagrams {T : Type 0} (delivers : T → ℕ → List ℕ → Bool → T → Type 0) (before : T) (old : Tally)
-    : T → Tally → Type 0 where
-  no_datagram : TakesDatagrams delivers before old before old
-  datagram : (t : T) (tally : Tally) → TakesDatagrams delivers before old t tally
-      → (bytes : List ℕ) (after : T) (new : Tally) → GivesDatagram delivers t tally bytes after new
-      → TakesDatagrams delivers before old after new
-  from_elsewhere : (t : T) (tally : Tally) → TakesDatagrams delivers before old t tally
-      → TakesDatagrams delivers before old t (dropped_one tally)
+-- the datagram came from elsewhere, and was dropped
+pub record DropsStranger {T : Type 0} (before : T) (old : Tally) (after : T) (new : Tally) : Type 0 where
+  pub taker : after ≡ before
+  pub tally : new ≡ dropped_one old
+
+-- a datagram came. If its sender is taken, it gave the packet whose frame it is, or was dropped as no frame. If its
+-- sender is not, it was dropped as one from elsewhere
+pub data TakesOne {T : Type 0} (delivers : T → ℕ → List ℕ → Bool → T → Type 0) (only : Option IpAddr) (before : T)
+    (old : Tally) (sender : Option SocketAddr) (bytes : List ℕ) (after : T) (new : Tally) : Type 0 where
+  from_there : takes_sender only sender ≡ true → GivesDatagram delivers before old bytes after new
+      → TakesOne delivers only before old sender bytes after new
+  from_elsewhere : takes_sender only sender ≡ false → DropsStranger before old after new
+      → TakesOne delivers only before old sender bytes after new
+
+-- datagrams came one after the other, and each was taken or dropped
+pub data TakesDatagrams {T : Type 0} (delivers : T → ℕ → List ℕ → Bool → T → Type 0) (only : Option IpAddr)
+    (before : T) (old : Tally) : T → Tally → Type 0 where
+  no_datagram : TakesDatagrams delivers only before old before old
+  datagram : (t : T) (tally : Tally) → TakesDatagrams delivers only before old t tally
+      → (sender : Option SocketAddr) (bytes : List ℕ) (after : T) (new : Tally)
+      → TakesOne delivers only t tally sender bytes after new
+      → TakesDatagrams delivers only before old after new

@@ -1,3 +1,4 @@
+pub mod Addresses
 pub mod Connection
 pub mod Datagrams
 pub mod Given

@@ -1,7 +1,8 @@
 //! Frames that come as datagrams.
 ghost use Rattle.std.specs.Prelude.{◌≡◌, ◌≤◌, true, length, None, IfSome};
+ghost use Rattle.share_downlink.specs.Addresses.{host_segments, takes, takes_sender};
 ghost use Rattle.share_downlink.specs.Datagrams.{GivesDatagram, IsFrameTo, IsNoFrame, TakesDatagrams};
-ghost use Rattle.share_downlink.specs.Datagrams.{dropped_one, no_tally};
+ghost use Rattle.share_downlink.specs.Datagrams.{TakesOne, dropped_one, no_tally};
 
 use crate::counts::Counts;
 use crate::deliver::Deliver;
@@ -74,7 +75,8 @@ fn whole_frame(bytes: &[u8]) -> Option<FlowNo>
     }
 }
 
-/// A socket on which the frames of another gateway come in, each as a datagram. A contract sees what it counts.
+/// A socket on which the frames of another gateway come in, each as a datagram. A contract sees the address that
+/// limits it, and what it counts.
 pub struct Datagrams {
     socket: PacketSocket,
     // The address from which alone datagrams are taken, if they are limited.
@@ -97,17 +99,17 @@ impl Drop for Datagrams {
 }
 
 impl Model for Datagrams {
-    ghost use Rattle.share_downlink.specs.declared.datagrams.Tally.{Tally};
+    ghost use Rattle.share_downlink.specs.Datagrams.{DatagramsView};
 
-    ghost Value = { Tally };
+    ghost Value = { DatagramsView };
 
-    ghost view = { λ d. d.tally };
+    ghost view = { λ d. record { from = d.from; tally = d.tally } };
 }
 
 impl Datagrams {
     /// The frames that come to a socket. With an address, datagrams from there alone are taken.
     pub fn new(socket: PacketSocket, from: Option<IpAddr>) -> Datagrams
-        ensures { result ≡ no_tally }
+        ensures { result ≡ record { from = from; tally = no_tally } }
     {
         Datagrams {
             socket,
@@ -119,7 +121,7 @@ impl Datagrams {
 
     /// Their counts.
     pub fn tally(&self) -> Tally
-        ensures { result ≡ self.now }
+        ensures { result ≡ self.now.tally }
     {
         self.tally
     }
@@ -134,7 +136,8 @@ impl Datagrams {
     /// Receives a bounded number of datagrams, and gives the packet of each that is exactly one frame. Others are
     /// dropped, as those from another address. Returns whether more may be at hand.
     pub fn take<D: Deliver>(&mut self, taker: &mut D) -> bool
-        ensures { TakesDatagrams D.delivers taker.old self.old taker.new self.new }
+        ensures from { self.new.from ≡ self.old.from }
+        ensures takes { TakesDatagrams D.delivers self.old.from taker.old self.old.tally taker.new self.new.tally }
     {
         if !self.is_readable {
             return false;
@@ -155,11 +158,13 @@ impl Datagrams {
         true
     }
 
-    // Gives the packet of a datagram from an address, or drops it.
+    // Gives the packet of a datagram, or drops one from elsewhere. One without an address is taken.
     fn give<D: Deliver>(&mut self, datagram: &[u8], from: Option<SocketAddr>, taker: &mut D)
-        ensures { TakesDatagrams D.delivers taker.old self.old taker.new self.new }
+        ensures same { self.new.from ≡ self.old.from }
+        ensures takes { TakesOne D.delivers self.old.from taker.old self.old.tally from datagram.now
+            taker.new self.new.tally }
     {
-        if from.is_none_or(|from| takes_address(self.from, from)) {
+        if takes_sender(self.from, from) {
             self.tally.give(datagram, taker);
         } else {
             self.tally.drop_one();
@@ -167,13 +172,30 @@ impl Datagrams {
     }
 }
 
+// Whether a datagram of a sender is taken. A sender of which no address is known is.
+fn takes_sender(only: Option<IpAddr>, sender: Option<SocketAddr>) -> bool
+    ensures { result ≡ takes_sender only sender }
+{
+    sender.is_none_or(|address| takes_address(only, address))
+}
+
 /// Whether what comes from an address is taken, if what comes from one host alone is taken, or from all. An IPv4
 /// address that is mapped to IPv6 is that IPv4 address.
 pub fn takes_address(only: Option<IpAddr>, address: SocketAddr) -> bool
-    ensures { only ≡ None → result ≡ true }
+    ensures { result ≡ takes only address }
 {
     match only {
         None => true,
-        Some(only) => only.to_canonical() == address.ip().to_canonical(),
+        Some(only) => segments_of(only) == segments_of(address.ip()),
+    }
+}
+
+// The segments of the address of a host in IPv6, into which an IPv4 address is mapped.
+fn segments_of(host: IpAddr) -> [u16; 8]
+    ensures { result ≡ host_segments host }
+{
+    match host {
+        IpAddr::V4(address) => address.to_ipv6_mapped().segments(),
+        IpAddr::V6(address) => address.segments(),
     }
 }

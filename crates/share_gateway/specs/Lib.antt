@@ -1,4 +1,5 @@
 pub mod ByteQueue
+pub mod Entries
 pub mod Frames
 pub mod GrantTickets
 pub mod Making

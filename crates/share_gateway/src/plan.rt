@@ -1,6 +1,7 @@
 //! Plans: which currencies and tenants share a link, and with which grants.
 ghost use Rattle.std.specs.Prelude.{◌≡◌, length, min, nat_le, sum_by, IfOk, IfErr, None, Some};
 ghost use Rattle.std.specs.List.{list_any};
+ghost use Rattle.share_gateway.specs.Entries.{entry_text};
 ghost use Rattle.share_gateway.specs.Plan.{CurrencyView, TenantView, is_gap, is_shared, has_name, flows_of};
 ghost use Rattle.share_gateway.specs.Plan.{are_flow_numbers, plan_fault, IsInLimits, funding_commands};
 
@@ -77,6 +78,8 @@ pub enum Entry {
 }
 
 impl fmt::Display for Entry {
+    ghost output = { λ entry. Some (entry_text entry) };
+
     fn fmt<W: fmt::Write>(&self, f: &mut fmt::Formatter<W>) -> fmt::Result {
         match self {
             Entry::Currency(currency) => write!(f, "currency {currency}"),

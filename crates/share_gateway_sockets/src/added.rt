@@ -3,13 +3,15 @@
 use crate::opening::GatewaySockets;
 use share_base::FlowNo;
 use share_doors::Door;
-use share_doorways::open_port;
+use share_doorways::{access_of, open_port};
 use share_gateway::Tenant;
-use share_news::NotRun;
+use share_news::{News, NotRun};
 use share_settings::{Settings, TenantPorts};
 use std::alloc::{AllocError, Global};
 use std::fs::Files;
+use std::io::Eprint;
 use std::net::Net;
+use std::time::Clock;
 
 // The most tenants of a plan, and so the most doors that a reload adds.
 const TENANTS: usize = 64;
@@ -91,12 +93,13 @@ impl GatewaySockets {
     ) -> Result<(), NotRun> {
         let registry = self.poll.registry();
         let (sources, doorways) = (&mut self.sources, &mut self.doorways);
+        let access = access_of(ports.mode, ports.group);
         for index in 0..ports.ports.len() {
             let address = &ports.ports[index];
             if doorways.port_at(address).is_none() {
                 added.ports.reserve(1)?;
                 let port = open_port(
-                    rt, alloc, registry, sources, doorways, door, address, ports.mode,
+                    rt, alloc, registry, sources, doorways, door, address, access,
                 )?;
                 push_key(&mut added.ports, port)?;
             }
@@ -105,7 +108,7 @@ impl GatewaySockets {
     }
 
     /// Removes what a reload has added.
-    pub fn undo<R: Files>(&mut self, rt: &R, added: &Added) {
+    pub fn undo<R: Files + Clock + Eprint>(&mut self, rt: &R, news: &mut News, added: &Added) {
         let registry = self.poll.registry();
         for index in 0..added.ports.len() {
             self.doorways
@@ -113,17 +116,23 @@ impl GatewaySockets {
         }
         for index in 0..added.doors.len() {
             self.doorways
-                .remove_door(&mut self.sources, added.doors[index]);
+                .remove_door(rt, &mut self.sources, news, added.doors[index]);
         }
     }
 
     /// Gives each port to its tenant in new settings, for whose tenants there are doors, and closes the ports and the
     /// doors that are gone.
-    pub fn keep<R: Files>(&mut self, rt: &R, alloc: Global, settings: &Settings) {
+    pub fn keep<R: Files + Clock + Eprint>(
+        &mut self,
+        rt: &R,
+        alloc: Global,
+        news: &mut News,
+        settings: &Settings,
+    ) {
         let registry = self.poll.registry();
         self.doorways
             .keep_ports(rt, alloc, registry, &mut self.sources, settings);
         self.doorways
-            .keep_doors(&mut self.sources, settings.plan.tenants());
+            .keep_doors(rt, &mut self.sources, news, settings.plan.tenants());
     }
 }

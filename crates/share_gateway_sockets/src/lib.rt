@@ -7,4 +7,4 @@ mod opening;
 mod round;
 
 pub use added::Added;
-pub use opening::GatewaySockets;
+pub use opening::{GatewaySockets, InputUse};

@@ -21,16 +21,20 @@ impl GatewaySockets {
             Some(Source::Input) => self.input.note(),
             Some(Source::ControlListener) => self.controls.note_listener(),
             Some(Source::Port(port)) => self.doorways.note_port(port),
-            Some(Source::Sender { port, key }) => {
+            Some(Source::Sender { port, key, .. }) => {
                 self.doorways.note_sender(port, key, event.is_read_closed())
             }
-            Some(Source::Control(key)) => {
-                self.controls
-                    .note(key, event.is_readable(), event.is_writable())
-            }
+            Some(Source::Control(key)) => self.note_control(key, event),
             Some(Source::WebListener) => self.note_web_listener(),
             Some(Source::WebClient(key)) => self.note_web(key, event),
         }
+    }
+
+    // The end of a pipe on standard input or standard output is reported without readiness.
+    fn note_control(&mut self, key: usize, event: &Event) {
+        let readable = event.is_readable() || event.is_read_closed();
+        let writable = event.is_writable() || event.is_write_closed();
+        self.controls.note(key, readable, writable);
     }
 
     fn note_web_listener(&mut self) {

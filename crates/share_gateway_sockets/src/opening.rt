@@ -2,14 +2,14 @@
 
 use mio::{Poll, Registry, Token, Waker};
 use share_doorways::{
-    Doorways, PortAddress, Source, Sources, address_of_control, listen, not_opened, open_doors,
-    remove_file, token_of,
+    Doorways, PortAddress, Source, Sources, access_of, address_of_control, listen, not_opened,
+    open_doors, token_of,
 };
 use share_listeners::{Controls, FarEnd, Input, Web};
 use share_news::NotRun;
 use share_settings::{Control, Peer, Settings, Web as WebSettings};
 use share_sockets::Listener;
-use share_uplink::{Transport, Uplink};
+use share_uplink::{Limits, Transport, Uplink};
 use std::alloc::Global;
 use std::fs::Files;
 use std::net::Net;
@@ -25,7 +25,8 @@ pub struct GatewaySockets {
     pub doorways: Doorways,
     /// The listener of control connections, and those that are open.
     pub controls: Controls,
-    control_address: PortAddress,
+    /// The address of the control listener.
+    pub control_address: PortAddress,
     /// The web listener and its connections, if the settings ask for it.
     pub web: Option<Web>,
     /// The uplink, if the settings have one.
@@ -74,7 +75,8 @@ fn open_control<R: Files + Net>(
     address: &PortAddress,
 ) -> Result<Listener, NotRun> {
     let token = token_of(sources, Source::ControlListener)?;
-    match listen(rt, registry, token, address, control.mode) {
+    let access = access_of(control.mode, control.group);
+    match listen(rt, registry, token, address, access) {
         Ok(listener) => Ok(listener),
         Err(fault) => Err(not_opened(alloc, address, fault)),
     }
@@ -87,7 +89,11 @@ fn uplink_of(settings: &Settings, now: Instant) -> Option<Uplink> {
         Peer::Tcp(address) => (address, Transport::Stream),
         Peer::Udp(address) => (address, Transport::Datagrams),
     };
-    Some(Uplink::new(address, transport, uplink.buffer, now))
+    let limits = Limits {
+        buffer: uplink.send_buffer(),
+        timeout: uplink.timeout,
+    };
+    Some(Uplink::new(address, transport, limits, now))
 }
 
 // Listens for web connections, if the settings ask for it.
@@ -103,7 +109,8 @@ fn open_web<R: Files + Net>(
     };
     let token = token_of(sources, Source::WebListener)?;
     let address = PortAddress::Tcp(web.listen);
-    match listen(rt, registry, token, &address, 0) {
+    let access = access_of(0, None);
+    match listen(rt, registry, token, &address, access) {
         Ok(listener) => Ok(Some(Web::new(alloc, listener, web.listen)?)),
         Err(fault) => Err(not_opened(alloc, &address, fault)),
     }
@@ -123,13 +130,26 @@ fn open_far_end(
     }
 }
 
-// Standard input, which is watched if its end is to end the gateway.
-fn open_input(poll: &Poll, sources: &mut Sources, until_eof: bool) -> Result<Input, NotRun> {
-    if !until_eof {
-        return Ok(Input::ignored());
+/// The meaning of standard input.
+#[derive(Clone, Copy, Debug, PartialEq, Eq)]
+pub enum InputUse {
+    /// It is not read.
+    Ignored,
+    /// Its end ends the gateway.
+    UntilEnd,
+    /// It is a control connection, and its end ends the gateway.
+    Commands,
+}
+
+// Standard input, which is watched if its end alone is to end the gateway.
+fn open_input(poll: &Poll, sources: &mut Sources, input: InputUse) -> Result<Input, NotRun> {
+    match input {
+        InputUse::Ignored | InputUse::Commands => Ok(Input::ignored()),
+        InputUse::UntilEnd => {
+            let token = token_of(sources, Source::Input)?;
+            Ok(Input::watched(poll.registry(), token))
+        }
     }
-    let token = token_of(sources, Source::Input)?;
-    Ok(Input::watched(poll.registry(), token))
 }
 
 impl GatewaySockets {
@@ -138,14 +158,15 @@ impl GatewaySockets {
         rt: &R,
         alloc: Global,
         settings: &Settings,
-        until_eof: bool,
+        input_use: InputUse,
     ) -> Result<GatewaySockets, NotRun> {
         let mut sources = Sources::new(alloc);
         let mut doorways = Doorways::new(alloc)?;
-        let uplink = uplink_of(settings, Instant::now(rt)?);
+        let now = Instant::now(rt)?;
+        let uplink = uplink_of(settings, now);
         let uplink_token = token_of(&mut sources, Source::Uplink)?;
         let poll = Poll::new(rt)?;
-        let input = open_input(&poll, &mut sources, until_eof)?;
+        let input = open_input(&poll, &mut sources, input_use)?;
         let control_address = address_of_control(alloc, &settings.control.listen)?;
         let far_end = open_far_end(rt, alloc, poll.registry(), &mut sources, settings)?;
         match open_all(
@@ -157,18 +178,24 @@ impl GatewaySockets {
             settings,
             &control_address,
         ) {
-            Ok((controls, web)) => Ok(GatewaySockets {
-                poll,
-                sources,
-                doorways,
-                controls,
-                control_address,
-                web,
-                uplink,
-                uplink_token,
-                far_end,
-                input,
-            }),
+            Ok((controls, web)) => with_commands(
+                rt,
+                alloc,
+                input_use,
+                now,
+                GatewaySockets {
+                    poll,
+                    sources,
+                    doorways,
+                    controls,
+                    control_address,
+                    web,
+                    uplink,
+                    uplink_token,
+                    far_end,
+                    input,
+                },
+            ),
             Err(fault) => {
                 doorways.remove_files(rt);
                 Err(fault)
@@ -185,7 +212,30 @@ impl GatewaySockets {
     /// Removes the files of Unix sockets.
     pub fn remove_files<R: Files>(&self, rt: &R) {
         self.doorways.remove_files(rt);
-        remove_file(rt, &self.control_address);
+        self.controls.remove_file(rt, &self.control_address);
+    }
+}
+
+// Makes standard input a control connection, if it is to be one.
+fn with_commands<R: Files>(
+    rt: &R,
+    alloc: Global,
+    input_use: InputUse,
+    now: Instant,
+    sockets: GatewaySockets,
+) -> Result<GatewaySockets, NotRun> {
+    let mut sockets = sockets;
+    if input_use != InputUse::Commands {
+        return Ok(sockets);
+    }
+    let (registry, sources) = (sockets.poll.registry(), &mut sockets.sources);
+    match sockets.controls.open_input(alloc, registry, sources, now) {
+        Ok(()) => Ok(sockets),
+        Err(_) => {
+            sockets.remove_files(rt);
+            drop(sockets);
+            Err(NotRun::NoMemory)
+        }
     }
 }
 

@@ -4,7 +4,7 @@ ghost use Rattle.share_gateway_words.specs.Orders.{CanBeAsked, IsLine};
 
 use crate::asked::AskOrders;
 use crate::help;
-use clap::{Arg, ArgAction, ArgMatches, Command};
+use clap::{Arg, ArgAction, ArgMatches, Command, value_parser};
 use share_spellings::read_listener;
 use std::alloc::{AllocError, Global};
 
@@ -15,8 +15,16 @@ const NO_ADDRESS: &str =
 /// The fault of lines.
 const NO_LINES: &str = "at least one LINE is wanted, and none has a line feed";
 
+/// The greatest timeout, in seconds.
+const MAX_TIMEOUT: u64 = 86400;
+
+/// The timeout if the words give none, in seconds.
+const TIMEOUT: u64 = 10;
+
 // The meaning of each word.
 const ADDRESS_HELP: &str = "where the gateway listens for control connections";
+
+const TIMEOUT_HELP: &str = "for how long a connection or a reply is awaited, 1 to 86400";
 
 const LINE_HELP: &str = "a control line; each is one word of the shell";
 
@@ -37,11 +45,22 @@ fn line<'a>(alloc: Global) -> Arg<'a> {
         .required(true)
 }
 
+fn timeout<'a>(alloc: Global) -> Arg<'a> {
+    Arg::new(alloc, "timeout")
+        .long("timeout")
+        .value_name("SECONDS")
+        .help(TIMEOUT_HELP)
+        .action(ArgAction::Set)
+        .value_parser(value_parser!(u64).range(1..=MAX_TIMEOUT as i64))
+        .default_value("10")
+}
+
 /// The words of `ask`. Each is made where it is added, so that no way out drops it.
 pub(crate) fn ask_command<'a>(alloc: Global) -> Result<Command<'a>, AllocError> {
     Command::new(alloc, "ask")
         .about("sends control lines to a gateway, and prints the replies")
         .after_long_help(help::ASK)
+        .arg(timeout(alloc))?
         .arg(address(alloc))?
         .arg(line(alloc))
 }
@@ -89,6 +108,7 @@ pub(crate) fn ask_orders<'a>(
             address,
             listener,
             lines,
+            timeout: ask.get_one::<u64>("timeout").unwrap_or(TIMEOUT),
         })),
         Ok(None) => {
             drop(lines);

@@ -1,6 +1,6 @@
 //! The requests in the words of the command line.
 
-use share_billing::Form;
+use share_billing::{Extent, Form};
 use share_settings::Listener;
 
 /// The orders for the run of a gateway.
@@ -10,10 +10,14 @@ pub struct GatewayOrders<'a> {
     pub file: &'a str,
     /// Whether the file is checked, and no gateway runs.
     pub is_check: bool,
+    /// The name whose number is given free, while no gateway runs.
+    pub forgotten: Option<&'a str>,
     /// The seconds for which frames that can be sent are sent, once the end has begun.
     pub grace: u64,
     /// Whether the end of standard input ends the gateway.
     pub is_until_eof: bool,
+    /// Whether standard input has control lines, and its end ends the gateway.
+    pub has_commands: bool,
     /// Whether most messages are left out.
     pub is_quiet: bool,
 }
@@ -27,6 +31,8 @@ pub struct AskOrders<'a> {
     pub listener: Listener,
     /// The lines, without their line feeds.
     pub lines: Vec<&'a str>,
+    /// The seconds for which a connection or a reply is awaited.
+    pub timeout: u64,
 }
 
 /// The source of the tariffs of books.
@@ -45,6 +51,8 @@ pub enum BillTariffs<'a> {
 pub struct BillOrders<'a> {
     /// The files of their texts.
     pub files: Vec<&'a str>,
+    /// The part of each text that is billed.
+    pub extent: Extent,
     pub form: Form,
     pub tariffs: BillTariffs<'a>,
 }

@@ -4,7 +4,7 @@ use crate::asked::{BillOrders, BillTariffs};
 use crate::help;
 use clap::builder::ValueParser;
 use clap::{Arg, ArgAction, ArgMatches, Command};
-use share_billing::Form;
+use share_billing::{Extent, Form};
 use std::alloc::{AllocError, Global};
 
 // The meaning of each word.
@@ -16,9 +16,11 @@ const BOOKS_HELP: &str = "check the books against this books.csv, and take their
 
 const PLAN_HELP: &str = "take the tariffs from this file of a gateway";
 
+const REPAIR_HELP: &str = "bill the beginning of each text, up to the first line that is wrong";
+
 const BOOK_HELP: &str = "the text of a book, of either kind";
 
-// A form of the bill.
+// An option without a value.
 fn flag<'a>(alloc: Global, name: &'a str, help: &'a str) -> Arg<'a> {
     Arg::new(alloc, name)
         .long(name)
@@ -54,6 +56,7 @@ pub(crate) fn bill_command<'a>(alloc: Global) -> Result<Command<'a>, AllocError>
         .arg(flag(alloc, "json", JSON_HELP).conflicts_with("csv")?)?
         .arg(source(alloc, "books", "ROWS", BOOKS_HELP))?
         .arg(source(alloc, "plan", "PLAN", PLAN_HELP).conflicts_with("books")?)?
+        .arg(flag(alloc, "repair", REPAIR_HELP))?
         .arg(book(alloc))
 }
 
@@ -65,6 +68,15 @@ fn form(bill: &ArgMatches<'_>) -> Form {
         Form::Json
     } else {
         Form::Table
+    }
+}
+
+// The part of each text that is billed.
+fn extent(bill: &ArgMatches<'_>) -> Extent {
+    if bill.get_flag("repair") {
+        Extent::Beginning
+    } else {
+        Extent::Whole
     }
 }
 
@@ -90,6 +102,7 @@ pub(crate) fn bill_orders<'a>(
     }
     Ok(BillOrders {
         files,
+        extent: extent(bill),
         form: form(bill),
         tariffs: tariffs(bill),
     })

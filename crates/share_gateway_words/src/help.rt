@@ -10,6 +10,9 @@ the tenant's buffer, and goes out on the uplink in the shares that the tickets s
 What a buffer has no room for waits where it came from: no packet is refused.
 Each event is a line in the open book, a file in the folder. A frame goes to the
 uplink only when the line of its turn is in the file.
+The flow number of a tenant belongs to its name: flows.csv in the folder keeps it, also
+while the tenant is gone. --forget NAME gives that of a name free that is no tenant of
+FILE, while no gateway runs on the folder.
 A gateway ends at the control line 'end', or with --until-eof at the end of standard
 input. Then it takes no packet, sends what it can for SECONDS, and closes the book.
 Messages go to standard error, a line each: TIME KIND TENANT WHY, with - for no
@@ -37,8 +40,8 @@ Each reply is a line, but for a report. 'no NUMBER NAME' is a refusal, and 'no F
 REASON' is the refusal of a reload.
 Exit statuses:
   0  all lines were answered, and no reply begins with 'no '
-  1  a reply begins with 'no '; or not all lines were answered, which standard error
-     reports
+  1  a reply begins with 'no '; or not all lines were answered in time, which standard
+     error reports
   2  the words of the command line are wrong";
 
 /// On bills: what a book is, what is checked, what a bill has, and the statuses.
@@ -59,7 +62,11 @@ With --books they are those of the rows of ROWS, the books.csv of a gateway. The
 has the name that the gateway gave it, and each book from the first to the last row has to
 be given, once. The digest of a text, its units and its amount have to be those of its
 row. A book without a row has its tariffs in the file beside it, as 000003.tariffs. A row
-whose why is bad is reported, and its book is not to be given.
+whose why is bad is reported, and its book is not to be given. A row whose why is none has
+no book, and no FILE of it is to be given.
+With --repair the bill of a FILE is that of its longest beginning, in whole lines, that is a
+run, as of 000004.bad. Standard error says where it ends, and how many lines are billed. Any
+FILEs may be given, and rows give them their tariffs alone.
 A book that is still open can be billed: a last line without its line feed is left out,
 and standard error names its file and number.
 Exit statuses:

@@ -30,6 +30,7 @@ fn bare_command_line<'a>(alloc: Global) -> Result<Command<'a>, AllocError> {
     Ok(
         command
             .version(VERSION)
+            .propagate_version(true)
             .about("a gateway that shares an uplink among tenants by tickets")
             .subcommand_required(true),
     )

@@ -2,9 +2,9 @@
 
 use mio::{Interest, Registry, Token};
 use share_base::FlowNo;
-use share_doorways::{Acceptor, Doorways, PortAddress, Source, Sources};
+use share_doorways::{Acceptor, Doorways, PortAddress, Source, Sources, no_memory};
 use share_downlink::{Datagrams, Deliver, Downlink, takes_address};
-use share_news::{News, NotRun};
+use share_news::{Caller, News, NotRun};
 use share_settings::{Downlink as DownlinkSettings, Peer};
 use share_sockets::{Listener, PacketSocket, Stream};
 use share_status::{DownlinkState, DownlinkStatus};
@@ -277,14 +277,33 @@ impl Connections {
         address: SocketAddr,
     ) {
         let Some(token) = sources.add(Source::DownlinkConnection) else {
+            news.tell_not_joined(rt, Caller::Downlink, &no_memory());
             return;
         };
+        match self.join(alloc, registry, token, stream, address) {
+            Ok(()) => news.tell_downlink(rt, address),
+            Err(fault) => {
+                drop(sources.remove(token));
+                news.tell_not_joined(rt, Caller::Downlink, &fault);
+            }
+        }
+    }
+
+    // Registers a connection and adds it.
+    fn join(
+        &mut self,
+        alloc: Global,
+        registry: &Registry,
+        token: Token,
+        stream: Stream,
+        address: SocketAddr,
+    ) -> io::Result<()> {
         let mut stream = stream;
-        let is_registered = stream.register(registry, token, Interest::READABLE).is_ok();
-        if is_registered && self.downlink.admit(alloc, stream, address, token.0) {
-            news.tell_downlink(rt, address);
+        stream.register(registry, token, Interest::READABLE)?;
+        if self.downlink.admit(alloc, stream, address, token.0) {
+            Ok(())
         } else {
-            drop(sources.remove(token));
+            Err(no_memory())
         }
     }
 

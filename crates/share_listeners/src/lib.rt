@@ -5,6 +5,7 @@
 mod controls;
 mod far_end;
 mod input;
+mod spare;
 mod web;
 
 pub use controls::Controls;

@@ -1,13 +1,14 @@
 //! The web listener, and the connections that came by it.
 
 use mio::{Interest, Registry, Token};
-use share_doorways::{Acceptor, Source, Sources};
-use share_news::News;
+use share_doorways::{Acceptor, Source, Sources, no_memory};
+use share_news::{Caller, News};
 use share_sockets::{Listener, Stream};
 use share_web::{Request, asked};
 use share_web_clients::{Stage, WebClient};
 use slab::Slab;
 use std::alloc::{AllocError, Global};
+use std::io;
 use std::io::Eprint;
 use std::net::SocketAddr;
 use std::time::{Clock, Duration, Instant};
@@ -99,26 +100,32 @@ impl Web {
             }
             match self.listener.accept(rt, news, now) {
                 None => return,
-                Some((stream, _)) => self.admit(alloc, registry, sources, now, stream),
+                Some((stream, _)) => self.admit(rt, alloc, registry, sources, news, now, stream),
             }
         }
     }
 
     // Registers a connection and adds it. Without memory for it, it is closed.
-    fn admit(
+    fn admit<R: Clock + Eprint>(
         &mut self,
+        rt: &R,
         alloc: Global,
         registry: &Registry,
         sources: &mut Sources,
+        news: &mut News,
         now: Instant,
         stream: Stream,
     ) {
         let Some(token) = sources.add(Source::WebListener) else {
+            news.tell_not_joined(rt, Caller::Web, &no_memory());
             return;
         };
         match self.join(alloc, registry, token, now, stream) {
-            None => drop(sources.remove(token)),
-            Some(key) => sources.set(token, Source::WebClient(key)),
+            Err(fault) => {
+                drop(sources.remove(token));
+                news.tell_not_joined(rt, Caller::Web, &fault);
+            }
+            Ok(key) => sources.set(token, Source::WebClient(key)),
         }
     }
 
@@ -129,14 +136,12 @@ impl Web {
         token: Token,
         now: Instant,
         stream: Stream,
-    ) -> Option<usize> {
+    ) -> io::Result<usize> {
         let mut stream = stream;
         let both = Interest::READABLE | Interest::WRITABLE;
-        if stream.register(registry, token, both).is_err() {
-            return None;
-        }
+        stream.register(registry, token, both)?;
         let client = WebClient::new(alloc, stream, token.0, now);
-        self.clients.insert(client).ok()
+        self.clients.insert(client).ok().ok_or(no_memory())
     }
 
     /// Reads what came on a connection, unless its time is over. Returns what it asks for, if its head is whole.

@@ -1,3 +1,4 @@
+pub mod CarryLemmas
 pub mod LifeLemmas
 pub mod RemainderLemmas
 pub mod SplitLemmas

@@ -9,7 +9,7 @@ use Rattle.share_model.specs.funding.Graph.{NameBytes}
 use Rattle.share_model.specs.link.Turns.{sending}
 use Rattle.share_gateway.specs.Plan.{PlanView, TenantView, IsInLimits}
 use Rattle.share_gateway.specs.PlanChanges.{with_hold}
-use Rattle.share_book.specs.Audited.{Audited, lacks_text}
+use Rattle.share_book.specs.Audited.{Audited}
 use Rattle.share_book.specs.Book.{BookView, Takes}
 use Rattle.share_book.specs.BookHistory.{
   CarriesAll,
@@ -40,7 +40,7 @@ use Rattle.share_book.specs.declared.book_text.TextKind.{TextKind}
 use Rattle.share_settings.specs.Settings.{SettingsView}
 use Rattle.share_transit.specs.Transit.{TransitView, TurnsInto}
 use Rattle.share_transit.proofs.PacedLemmas.{is_wrote, stays_is}
-use Rattle.share_orders.specs.Obeys.{Does, Obeys, waits}
+use Rattle.share_orders.specs.Obeys.{Does, Obeys, takes_no_event, waits}
 use Rattle.share_orders.specs.declared.orders.Order.{Order}
 use Rattle.share_orders.specs.declared.orders.Order.TheVariants.{Report, Status, Hold, Resume, Amend, Rotate}
 use Rattle.share_orders.specs.declared.orders.Order.TheVariants.{Reload, End}
@@ -211,7 +211,7 @@ module _ (name : NameBytes) (taken : List (List ℕ)) (dropped : ℕ) (scheduled
       → Keeps name taken dropped scheduled stage → ObeysAt fails stage order answer new
       → Keeps name taken dropped scheduled new
   obeyed_at fails (Open b) (Open n) order answer k did =
-      obeyed_book b n order answer (waits fails (lacks_text b.audited) order) k did
+      obeyed_book b n order answer (waits fails (takes_no_event b) order) k did
   obeyed_at fails (Open b) (Carrying n c) order answer k did = absurd did
   obeyed_at fails (Open b) Over order answer k did = absurd did
   obeyed_at fails (Carrying b c) new order answer k did = absurd k.history

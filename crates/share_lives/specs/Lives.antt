@@ -172,6 +172,10 @@ CarriesAt (Open b) done new = (done ≡ true) × (new ≡ Open b)
 CarriesAt (Carrying b c) done new = CarriesInto b c done new
 CarriesAt Over done new = (done ≡ true) × (new ≡ Over)
 
+-- nothing is left to be carried: a call of `carry` that was done left it so
+abbrev pub IsCarried : Phase → Type 0
+IsCarried new = (old : Phase) × CarriesAt old true new
+
 -- the book that took packets over begins
 abbrev pub begun : Phase → Phase
 begun (Open b) = Open b

@@ -1,5 +1,6 @@
 //! The life of the open book, and what the next one is opened over.
-ghost use Rattle.std.specs.Prelude.{◌≡◌, ◌+◌, ◌++◌, false, nat_lt, length, take, option_map, IfOk, IfErr, None, Some};
+ghost use Rattle.std.specs.Prelude.{◌≡◌, ◌+◌, ◌++◌, true, false, nat_lt, length, take, option_map};
+ghost use Rattle.std.specs.Prelude.{IfOk, IfErr, None, Some};
 ghost use Rattle.std.specs.Borrow.{sem};
 ghost use Rattle.std.specs.IoError.{error_kind};
 ghost use Rattle.share_base.specs.declared.refusal.Refusal.TheVariants.{NoMemory};
@@ -7,8 +8,9 @@ ghost use Rattle.share_catalog.specs.Texts.{are_tariffs};
 ghost use Rattle.share_transit.specs.Transit.{handed_count};
 ghost use Rattle.share_book.specs.OpenBook.{IsOpenBook};
 ghost use Rattle.share_lives.specs.Lending.{LifeLends};
-ghost use Rattle.share_lives.specs.Lives.{Begins, CarriesAt, IsNextBook, IsNoneAfter, ObeysAt, ReportsAt, TurnsLife};
-ghost use Rattle.share_lives.specs.Lives.{after_follow, at_stage, begun, drained_at, dropped_at, is_carrying, is_open};
+ghost use Rattle.share_lives.specs.Lives.{Begins, CarriesAt, IsCarried, IsNextBook, IsNoneAfter, ObeysAt, ReportsAt};
+ghost use Rattle.share_lives.specs.Lives.{TurnsLife, after_follow, at_stage, begun, drained_at, dropped_at};
+ghost use Rattle.share_lives.specs.Lives.{is_carrying, is_open};
 ghost use Rattle.share_lives.specs.Lives.{is_spent_at, lacks_text_at, left_at, next_plan, next_rates, open_book};
 ghost use Rattle.share_lives.specs.Lives.{sends_at, text_at};
 ghost use Rattle.share_lives.specs.NextBooks.{IsNoBook, text_kind};
@@ -311,13 +313,16 @@ impl Life {
     /// Carries packets over. Returns true if none is left to be carried.
     pub fn carry(&mut self) -> bool
         ensures carried { CarriesAt self.old.stage result self.new.stage }
+        ensures done { result ≡ true → IsCarried self.new.stage }
         ensures rest { self.new ≡ at_stage self.new.stage self.old }
     {
         self.stage.carry()
     }
 
-    /// The book that took packets over begins. Those that found no room are dropped, and added to these.
+    /// The book that took packets over begins, once none is left to be carried. Those that found no room are dropped,
+    /// and added to these.
     pub fn begin_next(&mut self, remainders: &mut Remainders)
+        requires { IsCarried self.old.stage }
         ensures life { self.new ≡ at_stage (begun self.old.stage) self.old }
         ensures dropped { Gains remainders.old (dropped_at self.old.stage) remainders.new }
     {

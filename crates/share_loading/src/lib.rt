@@ -3,7 +3,10 @@
 #![tactic(auto)]
 
 mod load;
+mod numbering;
+mod ordering;
 mod refused;
 
 pub use load::{load_settings, read_file};
+pub use numbering::{NotTaken, Numbered, number_settings, tenants_of};
 pub use refused::Refused;

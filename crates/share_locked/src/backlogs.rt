@@ -38,6 +38,18 @@ struct Standing {
     is_one_empty: bool,
 }
 
+impl Standing {
+    // The fewest offers more that a worker hears of. It hears rarely, of many at once: of half of those that its flows
+    // take, at most. But it hears at once of any if it fills a flow whose buffer is empty.
+    fn step(&self, most: u64) -> u64 {
+        if self.is_one_empty {
+            1
+        } else {
+            (self.limit.min(most) / 2).max(1)
+        }
+    }
+}
+
 /// A worker: the number of its offers that the link took, the number that it was allowed to make, and its flows.
 #[derive(Clone, Copy, Debug)]
 struct Filler {
@@ -92,15 +104,9 @@ impl Filler {
         }
     }
 
-    // Whether it is to hear that it may make that many offers. It hears so rarely, of many at once: of half of those
-    // that its flows take, at most. But it hears at once of any if it fills a flow whose buffer is empty.
+    // Whether it is to hear that it may make that many offers.
     fn is_due(&self, allowed: u64, standing: &Standing, most: u64) -> bool {
-        let step = if standing.is_one_empty {
-            1
-        } else {
-            (standing.limit.min(most) / 2).max(1)
-        };
-        allowed >= self.allowed.saturating_add(step)
+        allowed >= self.allowed.saturating_add(standing.step(most))
     }
 
     // Its last offer was for this flow. A flow that is not known takes a free place, or that of the flow for which it
@@ -204,20 +210,45 @@ impl Backlogs {
         }
     }
 
-    /// Forgets each flow whose buffer is full and that does not compete. Nothing is sent of it, so no worker is to wait
-    /// for room in its buffer.
-    pub fn forget_full<F: FnMut(FlowNo) -> bool>(&mut self, competes: F)
+    /// Forgets each flow that does not compete, and whose buffer has less room for its worker than that would hear of.
+    /// Nothing is sent of it, so no worker is to wait for room in its buffer.
+    pub fn forget_full<F: FnMut(FlowNo) -> bool>(&mut self, most: u64, competes: F)
         requires { F.IsAlwaysCallable competes }
     {
         let mut competes = competes;
-        for filler in &mut self.fillers {
-            for slot in &mut filler.flows {
-                if let Some(filled) = slot {
-                    if filled.room() == 0 && !competes(filled.flow) {
-                        *slot = None;
+        for at in 0..self.workers {
+            let step = self.step_of(at, most);
+            for place in 0..FLOWS {
+                if let Some(flow) = self.stalled(at, place, step) {
+                    if !competes(flow) {
+                        self.forget_at(at, flow);
                     }
                 }
             }
+        }
+    }
+
+    // The fewest offers more that the worker of this index hears of.
+    fn step_of(&self, at: usize, most: u64) -> u64 {
+        match self.fillers.get(at) {
+            Some(filler) => filler.standing().step(most),
+            None => 0,
+        }
+    }
+
+    // The flow of this worker at this place, if its buffer has less room for the worker than that.
+    fn stalled(&self, at: usize, place: usize, step: u64) -> Option<FlowNo> {
+        let filler = self.fillers.get(at)?;
+        match filler.flows.get(place) {
+            Some(Some(filled)) if self.part(filled) < step => Some(filled.flow),
+            _ => None,
+        }
+    }
+
+    // The worker of this index forgets a flow.
+    fn forget_at(&mut self, at: usize, flow: FlowNo) {
+        if let Some(filler) = self.fillers.get_mut(at) {
+            filler.forget(flow);
         }
     }
 
@@ -241,14 +272,17 @@ impl Backlogs {
         count
     }
 
-    // The number of offers that a worker may be ahead, by what its flows take. Each worker that fills a flow may fill
-    // an equal part of its room.
+    // The room in the buffer of a flow for each worker that fills it, an equal part of all.
+    fn part(&self, filled: &Filled) -> u64 {
+        u64::from(filled.room().div_ceil(self.fillers_of(filled.flow).max(1)))
+    }
+
+    // The number of offers that a worker may be ahead, by what its flows take.
     fn ahead(&self, filler: &Filler) -> u64 {
         let mut ahead = None;
         for filled in filler.flows.iter().flatten() {
             if filler.fills(filled) {
-                let part = filled.room().div_ceil(self.fillers_of(filled.flow).max(1));
-                ahead = Some(u64::from(part).max(ahead.unwrap_or(0)));
+                ahead = Some(self.part(filled).max(ahead.unwrap_or(0)));
             }
         }
         ahead.unwrap_or(u64::MAX)

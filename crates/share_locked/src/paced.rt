@@ -83,14 +83,16 @@ impl<'a, A: Attendant> Paced<'a, A> {
         }
     }
 
-    // Forgets the flows whose buffers are full and of which nothing is sent.
+    // Forgets the flows whose buffers are full, or almost, and of which nothing is sent.
     fn forget_full<W: TellingWriter, S: Rates, L: LinkBrand, R: Wait>(
         &mut self,
         rt: &R,
         port: &Port<W, S, L>,
     ) {
         self.writes = 0;
-        self.backlogs.forget_full(|flow| competes(rt, port, flow));
+        let most = self.pace.most();
+        self.backlogs
+            .forget_full(most, |flow| competes(rt, port, flow));
     }
 }
 

@@ -5,7 +5,7 @@ use Rattle.share_messages.specs.Limits.{limiter_of, new_messages}
 use Rattle.share_messages.specs.declared.kind.Kind.{Kind}
 use Rattle.share_messages.specs.declared.kind.Kind.TheVariants.{Started, Connected, Lost, Unreachable, Downlink, Closed}
 use Rattle.share_messages.specs.declared.kind.Kind.TheVariants.{Refused, Control, Dropped, Memory, Disk, Book, Reload}
-use Rattle.share_messages.specs.declared.kind.Kind.TheVariants.{Recovered, Bad, Left, Ended}
+use Rattle.share_messages.specs.declared.kind.Kind.TheVariants.{Recovered, Bad, Left, Ended, Client}
 
 -- the kind of a place
 abbrev kind_at : ℕ → Kind
@@ -14,7 +14,7 @@ kind_at n =
     cond (eqb n 4) Downlink (cond (eqb n 5) Closed (cond (eqb n 6) Refused (cond (eqb n 7) Control (
     cond (eqb n 8) Dropped (cond (eqb n 9) Memory (cond (eqb n 10) Disk (cond (eqb n 11) Book (
     cond (eqb n 12) Reload (cond (eqb n 13) Recovered (cond (eqb n 14) Bad (cond (eqb n 15) Left (
-    Ended))))))))))))))))
+    cond (eqb n 16) Ended Client))))))))))))))))
 
 kind_back : (kind : Kind) → kind_at (index_of kind) ≡ kind
 kind_back Started = refl
@@ -34,11 +34,12 @@ kind_back Recovered = refl
 kind_back Bad = refl
 kind_back Left = refl
 kind_back Ended = refl
+kind_back Client = refl
 
 pub same_kind : (kind other : Kind) → index_of kind ≡ index_of other → kind ≡ other
 same_kind kind other e = sym (kind_back kind) ∙ ap kind_at e ∙ kind_back other
 
-pub few_kinds : (kind : Kind) → index_of kind < 17
+pub few_kinds : (kind : Kind) → index_of kind < 18
 few_kinds Started = lit< tt
 few_kinds Connected = lit< tt
 few_kinds Lost = lit< tt
@@ -56,6 +57,7 @@ few_kinds Recovered = lit< tt
 few_kinds Bad = lit< tt
 few_kinds Left = lit< tt
 few_kinds Ended = lit< tt
+few_kinds Client = lit< tt
 
 -- a quiet gateway prints the lines that are never left out
 pub unlimited_is_quiet : (kind : Kind) → is_limited_kind kind ≡ false → is_quiet_kind kind ≡ true
@@ -76,6 +78,7 @@ unlimited_is_quiet Recovered e = absurd (cc)
 unlimited_is_quiet Bad e = absurd (cc)
 unlimited_is_quiet Left e = refl
 unlimited_is_quiet Ended e = absurd (cc)
+unlimited_is_quiet Client e = absurd (cc)
 
 pub new_is_empty : (kind : Kind) (is_quiet : Bool) → (limiter_of kind (new_messages is_quiet)).left_out ≡ 0
 new_is_empty Started is_quiet = refl
@@ -95,3 +98,4 @@ new_is_empty Recovered is_quiet = refl
 new_is_empty Bad is_quiet = refl
 new_is_empty Left is_quiet = refl
 new_is_empty Ended is_quiet = refl
+new_is_empty Client is_quiet = refl

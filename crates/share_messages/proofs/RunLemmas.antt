@@ -45,7 +45,7 @@ chosen_other : (is : Bool) (kind other : Kind) (l : LimiterView) (m : MessagesVi
 chosen_other true kind other l m far = get_or-set_other m.limiters (index_of other) (index_of kind) l new_limiter far
 chosen_other false kind other l m far = refl
 
-chosen_same : (is : Bool) (kind : Kind) (l : LimiterView) (m : MessagesView) → is ≡ true → length m.limiters ≡ 17
+chosen_same : (is : Bool) (kind : Kind) (l : LimiterView) (m : MessagesView) → is ≡ true → length m.limiters ≡ 18
     → limiter_of kind (chosen is kind l m) ≡ l
 chosen_same true kind l m e size =
     let few = few_kinds kind in
@@ -71,7 +71,7 @@ both true false e f = refl
 both true true e f = absurd (cc)
 both false b e f = absurd (cc)
 
-same_limiter : (kind : Kind) (second : ℕ) (m : MessagesView) → length m.limiters ≡ 17 → is_limited_kind kind ≡ true
+same_limiter : (kind : Kind) (second : ℕ) (m : MessagesView) → length m.limiters ≡ 18 → is_limited_kind kind ≡ true
     → is_silent kind m ≡ false → limiter_of kind (after_line kind second m) ≡ next_limiter kind second m
 same_limiter kind second m size is loud =
     let is_chosen = both (is_limited_kind kind) (is_silent kind m) is loud in
@@ -121,7 +121,7 @@ Counts kind other second m =
     one_if (decision_of other second m).is_printed + (decision_of other second m).left_out
     + waiting kind (after_line other second m) ≡ waiting kind m + 1
 
-counted_at_kind : (kind : Kind) (second : ℕ) (m : MessagesView) → length m.limiters ≡ 17 → is_limited_kind kind ≡ true
+counted_at_kind : (kind : Kind) (second : ℕ) (m : MessagesView) → length m.limiters ≡ 18 → is_limited_kind kind ≡ true
     → is_silent kind m ≡ false → waiting kind m + 1 < 2 ^ 64 → Counts kind kind second m
 counted_at_kind kind second m size is loud few =
     let l : LimiterView = limiter_of kind m in
@@ -136,7 +136,7 @@ zero_more : (a b : ℕ) → a ≡ b → 0 + 0 + a ≡ b + 0
 zero_more a b e = omega (arith, e)
 
 counted_by : (is : Bool) (kind : Kind) (line : Kind × ℕ) (m : MessagesView) → is_of kind line ≡ is
-    → length m.limiters ≡ 17 → is_limited_kind kind ≡ true → is_silent kind m ≡ false → waiting kind m + 1 < 2 ^ 64
+    → length m.limiters ≡ 18 → is_limited_kind kind ≡ true → is_silent kind m ≡ false → waiting kind m + 1 < 2 ^ 64
     → one_if (is && (decision_of line.0 line.1 m).is_printed)
     + (if is then (decision_of line.0 line.1 m).left_out else 0)
     + waiting kind (after_line line.0 line.1 m) ≡ waiting kind m + one_if is
@@ -162,7 +162,7 @@ one_fits w n few = omega (arith, few)
 nothing_yet : (w : ℕ) → 0 + 0 + w ≡ w + 0
 nothing_yet w = omega arith
 
-counted : (kind : Kind) (lines : List (Kind × ℕ)) (m : MessagesView) → length m.limiters ≡ 17
+counted : (kind : Kind) (lines : List (Kind × ℕ)) (m : MessagesView) → length m.limiters ≡ 18
     → is_limited_kind kind ≡ true → is_silent kind m ≡ false → waiting kind m + length lines < 2 ^ 64
     → printed_of kind m lines + reported_of kind m lines + waiting kind (after_lines m lines)
     ≡ waiting kind m + count_of kind lines
@@ -195,7 +195,7 @@ TakesRoom kind other second m =
     one_if (decision_of other second m).is_printed + room second (limiter_of kind (after_line other second m))
     ≤ room second (limiter_of kind m)
 
-room_at_loud : (kind : Kind) (second : ℕ) (m : MessagesView) → length m.limiters ≡ 17 → is_limited_kind kind ≡ true
+room_at_loud : (kind : Kind) (second : ℕ) (m : MessagesView) → length m.limiters ≡ 18 → is_limited_kind kind ≡ true
     → is_silent kind m ≡ false → TakesRoom kind kind second m
 room_at_loud kind second m size is loud =
     let l : LimiterView = limiter_of kind m in
@@ -228,12 +228,12 @@ room_at_silent kind second m silent =
     no_more _ _ _ none (ap (λ x. room second (limiter_of kind x)) same)
 
 room_at_kind : (silent : Bool) (kind : Kind) (second : ℕ) (m : MessagesView) → is_silent kind m ≡ silent
-    → length m.limiters ≡ 17 → is_limited_kind kind ≡ true → TakesRoom kind kind second m
+    → length m.limiters ≡ 18 → is_limited_kind kind ≡ true → TakesRoom kind kind second m
 room_at_kind true kind second m e size is = room_at_silent kind second m e
 room_at_kind false kind second m e size is = room_at_loud kind second m size is e
 
 room_by : (is : Bool) (kind other : Kind) (second : ℕ) (m : MessagesView) → (index_of other == index_of kind) ≡ is
-    → length m.limiters ≡ 17 → is_limited_kind kind ≡ true
+    → length m.limiters ≡ 18 → is_limited_kind kind ≡ true
     → one_if (is && (decision_of other second m).is_printed) + room second (limiter_of kind (after_line other second m))
     ≤ room second (limiter_of kind m)
 room_by true kind other second m e size limits =
@@ -246,7 +246,7 @@ room_by false kind other second m e size limits =
 room_for_both : (a b r r1 : ℕ) → a + r1 ≤ r → b ≤ r1 → a + b ≤ r
 room_for_both a b r r1 e f = omega (arith, e, f)
 
-room_left : (kind : Kind) (second : ℕ) (lines : List (Kind × ℕ)) (m : MessagesView) → length m.limiters ≡ 17
+room_left : (kind : Kind) (second : ℕ) (lines : List (Kind × ℕ)) (m : MessagesView) → length m.limiters ≡ 18
     → is_limited_kind kind ≡ true → list_all (λ l. l.1 == second) lines ≡ true
     → printed_of kind m lines ≤ room second (limiter_of kind m)
 unfolding printed_of

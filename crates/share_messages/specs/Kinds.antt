@@ -3,7 +3,7 @@ use Rattle.std.specs.Prelude.{ℕ, Bool, true, false, List, codes}
 use Rattle.share_messages.specs.declared.kind.Kind.{Kind}
 use Rattle.share_messages.specs.declared.kind.Kind.TheVariants.{Started, Connected, Lost, Unreachable, Downlink}
 use Rattle.share_messages.specs.declared.kind.Kind.TheVariants.{Closed, Refused, Control, Dropped, Memory, Disk, Book}
-use Rattle.share_messages.specs.declared.kind.Kind.TheVariants.{Reload, Recovered, Bad, Left, Ended}
+use Rattle.share_messages.specs.declared.kind.Kind.TheVariants.{Reload, Recovered, Bad, Left, Ended, Client}
 
 abbrev pub word_of : Kind → List ℕ
 word_of Started = codes "started"
@@ -23,6 +23,7 @@ word_of Recovered = codes "recovered"
 word_of Bad = codes "bad"
 word_of Left = codes "left"
 word_of Ended = codes "ended"
+word_of Client = codes "client"
 
 -- the place among all kinds
 abbrev pub index_of : Kind → ℕ
@@ -43,6 +44,7 @@ index_of Recovered = 13
 index_of Bad = 14
 index_of Left = 15
 index_of Ended = 16
+index_of Client = 17
 
 -- all but the lines that report dropped or left packets
 abbrev pub is_limited_kind : Kind → Bool

@@ -14,7 +14,7 @@ pub record MessagesView : Type 0 where
   pub limiters : List LimiterView
 
 abbrev pub new_messages : Bool → MessagesView
-new_messages is_quiet = record { is_quiet = is_quiet; limiters = replicate 17 new_limiter }
+new_messages is_quiet = record { is_quiet = is_quiet; limiters = replicate 18 new_limiter }
 
 abbrev pub limiter_of : Kind → MessagesView → LimiterView
 limiter_of kind m = slice_index_or m.limiters (index_of kind) new_limiter

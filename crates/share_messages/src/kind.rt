@@ -3,7 +3,7 @@ ghost use Rattle.std.specs.Prelude.{◌≡◌, ◌<◌};
 ghost use Rattle.share_messages.specs.Kinds.{index_of, is_limited_kind, is_quiet_kind, word_of};
 
 /// The number of kinds.
-pub const KINDS: usize = 17;
+pub const KINDS: usize = 18;
 
 /// The subject of a line.
 #[derive(Clone, Copy, Debug, PartialEq, Eq)]
@@ -18,21 +18,22 @@ pub enum Kind {
     Unreachable,
     /// A connection came to the downlink, was replaced, or ended.
     Downlink,
-    /// A connection or a port of a tenant was closed because of what it gave, or because it ended.
+    /// A connection or a port of a tenant was closed because of what it gave, or because it ended. Or a control
+    /// connection was closed for a newer one.
     Closed,
     /// A connection beyond the limit was closed at once.
     Refused,
-    /// A control connection was closed.
+    /// A control line that changes something was answered.
     Control,
     /// Packets were dropped.
     Dropped,
-    /// Memory was refused.
+    /// A connection or packets were refused for lack of memory or of descriptors.
     Memory,
     /// The disk fails, or writes again.
     Disk,
     /// A book was closed, and another one begun.
     Book,
-    /// The plan was read anew, or it was not.
+    /// The file was read again, and refused or not.
     Reload,
     /// A book of an earlier process was closed or removed.
     Recovered,
@@ -42,6 +43,8 @@ pub enum Kind {
     Left,
     /// The gateway has ended.
     Ended,
+    /// A connection of a tenant was accepted or closed.
+    Client,
 }
 
 impl Kind {
@@ -64,6 +67,7 @@ impl Kind {
         Kind::Bad,
         Kind::Left,
         Kind::Ended,
+        Kind::Client,
     ];
 
     /// The word of the kind in a line.
@@ -88,6 +92,7 @@ impl Kind {
             Kind::Bad => "bad",
             Kind::Left => "left",
             Kind::Ended => "ended",
+            Kind::Client => "client",
         }
     }
 

@@ -9,5 +9,5 @@ mod moment;
 
 pub use kind::{KINDS, Kind};
 pub use laws::limits_are_kept;
-pub use line::{Line, LinesLeftOut};
+pub use line::{Line, LinesLeftOut, Printed};
 pub use messages::{Decision, Messages};

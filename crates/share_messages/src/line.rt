@@ -1,10 +1,11 @@
 //! The text of lines.
 ghost use Rattle.std.specs.Prelude.{◌≡◌, Some};
 ghost use Rattle.std.specs.Fmt.{WritesOnOk};
-ghost use Rattle.share_messages.specs.Lines.{head_text, left_out_text, line_text, rest_text, shown_char};
-ghost use Rattle.share_messages.specs.Lines.{shown_text, tenant_word, time_word};
+ghost use Rattle.share_messages.specs.Lines.{head_text, left_out_line, left_out_text, line_if, line_text};
+ghost use Rattle.share_messages.specs.Lines.{printed_text, rest_text, shown_char, shown_text, tenant_word, time_word};
 
 use crate::kind::Kind;
+use crate::messages::Decision;
 use share_base::Name;
 use share_catalog::Time;
 use std::{fmt, str};
@@ -27,6 +28,65 @@ impl fmt::Display for Line<'_> {
         write_head(f, self.time, self.kind)?;
         write_rest(f, self.tenant, self.why)
     }
+}
+
+/// The lines that are printed at a line: first the number of lines of its kind that were left out before it, if there
+/// are some, and then the line, if it is printed.
+#[derive(Clone, Copy, Debug)]
+pub struct Printed<'a> {
+    pub decision: Decision,
+    pub line: Line<'a>,
+}
+
+impl fmt::Display for Printed<'_> {
+    ghost output = { λ p. Some (printed_text p.decision p.line.time p.line.kind p.line.tenant p.line.why.now) };
+
+    fn fmt<W: fmt::Write>(&self, f: &mut fmt::Formatter<W>) -> fmt::Result {
+        let Line {
+            time,
+            kind,
+            tenant,
+            why,
+        } = self.line;
+        write_left_out(f, self.decision.left_out, time, kind)?;
+        write_line(f, self.decision.is_printed, time, kind, tenant, why)
+    }
+}
+
+// Writes the number of lines of a kind that were left out, if there are some.
+fn write_left_out<W: fmt::Write>(
+    f: &mut fmt::Formatter<W>,
+    count: u64,
+    time: Option<Time>,
+    kind: Kind,
+) -> fmt::Result
+    ensures { WritesOnOk W.write_str_gives f.old result (left_out_line count time kind) f.new }
+{
+    if count == 0 {
+        return Ok(());
+    }
+    write_head(f, time, kind)?;
+    write!(f, "- {}\n", LinesLeftOut(count))
+}
+
+// Writes a line, if it is printed.
+#[tactic(auto, unfolding(crate::specs::Lines::line_text))]
+fn write_line<W: fmt::Write>(
+    f: &mut fmt::Formatter<W>,
+    is_printed: bool,
+    time: Option<Time>,
+    kind: Kind,
+    tenant: Option<Name>,
+    why: &str,
+) -> fmt::Result
+    ensures { WritesOnOk W.write_str_gives f.old result
+        (line_if is_printed time kind tenant why.now) f.new }
+{
+    if !is_printed {
+        return Ok(());
+    }
+    write_head(f, time, kind)?;
+    write_rest(f, tenant, why)
 }
 
 /// The reason of the line that gives the number of lines of its kind that were left out.

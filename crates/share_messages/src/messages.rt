@@ -4,7 +4,7 @@ ghost use Rattle.share_messages.specs.Limits.{after_line, after_report, decision
 ghost use Rattle.share_messages.specs.Limits.{limiter_of, new_messages};
 
 use crate::kind::{KINDS, Kind};
-use crate::line::{Line, LinesLeftOut};
+use crate::line::{Line, Printed};
 use crate::moment::Moment;
 use share_base::Name;
 use share_timing::{Limiter, Printing};
@@ -69,6 +69,7 @@ impl Messages {
                 Limiter::new(),
                 Limiter::new(),
                 Limiter::new(),
+                Limiter::new(),
             ],
         }
     }
@@ -109,7 +110,8 @@ impl Messages {
     }
 
     /// Prints a line, unless it is left out. If lines of its kind were left out before, a line with their number is
-    /// printed first. A line that cannot be printed is dropped.
+    /// printed first. A line that cannot be printed is dropped. If memory for the text of the reason is refused, the
+    /// line has another reason, which says so.
     pub fn say<R: Eprint + Clock, D: Display + Drop>(
         &mut self,
         rt: &R,
@@ -119,17 +121,30 @@ impl Messages {
     )
         ensures { (second : ℕ) × (self.new ≡ after_line kind second self.old) }
     {
-        if self.is_silent(kind) {
-            return;
-        }
         let moment = Moment::now(rt);
         let decision = self.decide(kind, moment.second);
-        if decision.left_out > 0 {
-            self.print(rt, moment, kind, None, LinesLeftOut(decision.left_out));
+        if decision.left_out == 0 && !decision.is_printed {
+            return;
         }
-        if decision.is_printed {
-            self.print(rt, moment, kind, tenant, why);
+        match format!(in self.alloc; "{why}") {
+            Ok(text) => print(rt, moment, decision, kind, tenant, text.as_str()),
+            Err(_) => print(rt, moment, decision, kind, tenant, NO_REASON),
         }
+    }
+
+    /// Prints a line, as `say` does. It takes no memory.
+    pub fn say_text<R: Eprint + Clock>(
+        &mut self,
+        rt: &R,
+        kind: Kind,
+        tenant: Option<Name>,
+        why: &str,
+    )
+        ensures { (second : ℕ) × (self.new ≡ after_line kind second self.old) }
+    {
+        let now = Moment::now(rt);
+        let outcome = self.decide(kind, now.second);
+        print(rt, now, outcome, kind, tenant, why);
     }
 
     /// Prints the number of lines of each kind that were left out, if any were. It is called at the end.
@@ -140,9 +155,11 @@ impl Messages {
         let moment = Moment::now(rt);
         'kinds: for index in 0..KINDS {
             let left_out = take_count(&mut self.limiters[index], moment.second);
-            if left_out > 0 {
-                self.print(rt, moment, Kind::ALL[index], None, LinesLeftOut(left_out));
-            }
+            let decision = Decision {
+                left_out,
+                is_printed: false,
+            };
+            print(rt, moment, decision, Kind::ALL[index], None, "");
         }
     }
 
@@ -151,20 +168,6 @@ impl Messages {
         ensures { result ≡ is_silent_kind kind self.now }
     {
         self.is_quiet && !kind.is_quiet()
-    }
-
-    fn print<R: Eprint, D: Display + Drop>(
-        &self,
-        rt: &R,
-        moment: Moment,
-        kind: Kind,
-        tenant: Option<Name>,
-        why: D,
-    ) {
-        match format!(in self.alloc; "{why}") {
-            Ok(text) => print_line(rt, moment, kind, tenant, text.as_str()),
-            Err(_) => print_line(rt, moment, kind, tenant, NO_REASON),
-        }
     }
 }
 
@@ -178,11 +181,20 @@ fn take_count(limiter: &mut Limiter, second: u64) -> u64
     before.saturating_add(limiter.begin(second.wrapping_add(1)))
 }
 
-fn print_line<R: Eprint>(rt: &R, moment: Moment, kind: Kind, tenant: Option<Name>, why: &str) {
-    let _ = rt.eprint(Line {
+// Prints what was decided to be printed at a line of this moment, in one call.
+fn print<R: Eprint>(
+    rt: &R,
+    moment: Moment,
+    decision: Decision,
+    kind: Kind,
+    tenant: Option<Name>,
+    why: &str,
+) {
+    let line = Line {
         time: moment.time,
         kind,
         tenant,
         why,
-    });
+    };
+    let _ = rt.eprint(Printed { decision, line });
 }

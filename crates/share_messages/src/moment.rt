@@ -1,4 +1,6 @@
 //! The moment of a line.
+ghost use Rattle.std.specs.Prelude.{◌≡◌, ◌/◌};
+ghost use Rattle.std.specs.Time.{system_time_nanos};
 
 use share_catalog::Time;
 use share_disk::time_of;
@@ -15,21 +17,30 @@ impl Moment {
     /// The moment by the system's clock. If the clock fails there is no time.
     pub(crate) fn now(clock: &impl Clock) -> Moment {
         match SystemTime::now(clock) {
-            Ok(now) => Moment {
-                second: second_of(now),
-                time: time_of(now),
-            },
+            Ok(now) => Moment::of(now),
             Err(_) => Moment {
                 second: 0,
                 time: None,
             },
         }
     }
+
+    // The moment of a reading of the system's clock.
+    fn of(now: SystemTime) -> Moment
+        ensures { result.second ≡ system_time_nanos now / 1_000_000_000 }
+    {
+        Moment {
+            second: second_of(now),
+            time: time_of(now),
+        }
+    }
 }
 
-fn second_of(moment: SystemTime) -> u64 {
+fn second_of(moment: SystemTime) -> u64
+    ensures { result ≡ system_time_nanos moment / 1_000_000_000 }
+{
     match moment.duration_since(SystemTime::UNIX_EPOCH) {
         Ok(since) => since.as_secs(),
-        Err(_) => 0,
+        Err(_) => unreachable!(),
     }
 }

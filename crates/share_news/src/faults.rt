@@ -22,6 +22,11 @@ pub enum NotRun {
         number: u64,
         fault: io::Error,
     },
+    /// The numbers of names could not be kept in this folder.
+    Flows {
+        folder: Text,
+        fault: io::Error,
+    },
     /// Another call of the system failed: the poll, the clock, a thread.
     System(io::Error),
 }
@@ -41,6 +46,10 @@ impl fmt::Display for NotRun {
             } => {
                 f.write_str(folder.as_str())?;
                 write!(f, ": book {number}: {fault}")
+            }
+            NotRun::Flows { folder, fault } => {
+                f.write_str(folder.as_str())?;
+                write!(f, "/flows.csv: {fault}")
             }
             NotRun::System(fault) => write!(f, "{fault}"),
         }

@@ -1,17 +1,21 @@
 //! The lines that a gateway prints as things happen.
 
+use crate::clients::{Origin, Why};
 use crate::faults::PortName;
+use crate::refused::{Caller, lacks_means};
 use share_base::Name;
-use share_doors::{ClosedWhy, PortEnd};
+use share_catalog::Closing;
+use share_doors::{ClosedSender, ClosedWhy, PortEnd};
 use share_downlink::{ClosedConnection, ClosedWhy as DownlinkClosed};
 use share_gateway::Field;
 use share_messages::{Kind, Messages};
-use share_rotation::Books;
+use share_rotation::{Books, ClosedBook, Left};
 use share_settings::Port;
 use share_uplink::{Uplink, Work};
-use std::io;
-use std::io::Eprint;
+use std::fmt::Display;
+use std::io::{Eprint, Error, ErrorKind};
 use std::net::SocketAddr;
+use std::str;
 use std::time::Clock;
 
 /// The messages of a gateway.
@@ -31,6 +35,22 @@ impl News {
     /// No messages.
     pub fn new(messages: Messages) -> News {
         News { messages }
+    }
+
+    /// Prints that a gateway of this version runs, from a file with this number of tenants.
+    pub fn tell_started<R: Clock + Eprint>(
+        &mut self,
+        rt: &R,
+        version: &str,
+        path: &str,
+        tenants: usize,
+    ) {
+        self.messages.say(
+            rt,
+            Kind::Started,
+            None,
+            format_args!("version {version}, {path}, {tenants} tenants"),
+        );
     }
 
     /// Prints what became of the uplink.
@@ -157,19 +177,45 @@ impl News {
 
     /// Prints why a connection of a tenant was closed, unless its far end ended it.
     pub fn tell_closed<R: Clock + Eprint>(&mut self, rt: &R, tenant: Name, why: ClosedWhy) {
-        let said = match why {
-            ClosedWhy::Ended | ClosedWhy::HungUp | ClosedWhy::Asked => return,
-            ClosedWhy::Failed(kind) => {
-                self.messages
-                    .say(rt, Kind::Closed, Some(tenant), format_args!("{kind}"));
-                return;
-            }
-            ClosedWhy::CutShort => "a record was cut short",
-            ClosedWhy::Malformed => "no record of this tenant",
-            ClosedWhy::NoMemory => "out of memory: a packet is lost",
-        };
-        self.messages
-            .say(rt, Kind::Closed, Some(tenant), format_args!("{said}"));
+        match why {
+            ClosedWhy::Ended | ClosedWhy::HungUp | ClosedWhy::Asked => (),
+            _ => self.messages.say(rt, Kind::Closed, Some(tenant), Why(why)),
+        }
+    }
+
+    /// Prints that a connection of a tenant came by a port, from an address if it is known.
+    pub fn tell_client<R: Clock + Eprint>(
+        &mut self,
+        rt: &R,
+        tenant: Name,
+        from: Option<SocketAddr>,
+        port: &Port,
+    ) {
+        self.messages.say(
+            rt,
+            Kind::Client,
+            Some(tenant),
+            format_args!("{}: connected", Origin(from, Some(port))),
+        );
+    }
+
+    /// Prints that a connection of a tenant is over, why, and the packets that were taken of it.
+    pub fn tell_client_gone<R: Clock + Eprint>(
+        &mut self,
+        rt: &R,
+        tenant: Name,
+        from: Option<SocketAddr>,
+        port: Option<&Port>,
+        closed: &ClosedSender,
+    ) {
+        let packets = closed.packets;
+        let (from, why) = (Origin(from, port), Why(closed.why));
+        self.messages.say(
+            rt,
+            Kind::Client,
+            Some(tenant),
+            format_args!("{from}: {why}, {packets} packets"),
+        );
     }
 
     /// Prints why a packet port of a tenant was closed.
@@ -213,19 +259,65 @@ impl News {
     pub fn tell_control_closed<R: Clock + Eprint>(&mut self, rt: &R) {
         self.messages.say(
             rt,
+            Kind::Closed,
+            None,
+            format_args!("a control connection beyond 16: the one that was silent for longest"),
+        );
+    }
+
+    /// Prints a control line, from where it came, and its reply.
+    pub fn tell_control<R: Clock + Eprint, F: Display + Drop>(
+        &mut self,
+        rt: &R,
+        from: F,
+        line: &str,
+        reply: &str,
+    ) {
+        self.messages.say(
+            rt,
             Kind::Control,
             None,
-            format_args!("too many connections: the one that was silent for longest is closed"),
+            format_args!("{from}: {line}: {reply}"),
         );
     }
 
     /// Prints that a connection could not be accepted.
-    pub fn tell_not_accepted<R: Clock + Eprint>(&mut self, rt: &R, fault: &io::Error) {
+    pub fn tell_not_accepted<R: Clock + Eprint>(&mut self, rt: &R, fault: &Error) {
+        let kind = if lacks_means(fault) {
+            Kind::Memory
+        } else {
+            Kind::Refused
+        };
         self.messages.say(
             rt,
-            Kind::Refused,
+            kind,
             None,
             format_args!("cannot accept a connection: {fault}"),
+        );
+    }
+
+    /// Prints that a connection that was accepted was closed at once, and why.
+    pub fn tell_not_joined<R: Clock + Eprint>(&mut self, rt: &R, caller: Caller, fault: &Error) {
+        if fault.kind() == ErrorKind::OutOfMemory {
+            self.messages
+                .say_text(rt, Kind::Memory, caller.tenant(), caller.without_memory());
+            return;
+        }
+        self.messages.say(
+            rt,
+            Kind::Memory,
+            caller.tenant(),
+            format_args!("{caller} was closed at once: {fault}"),
+        );
+    }
+
+    /// Prints the number of packets of a tenant that came by packet ports and found no memory.
+    pub fn tell_no_memory<R: Clock + Eprint>(&mut self, rt: &R, tenant: Name, packets: u64) {
+        self.messages.say(
+            rt,
+            Kind::Memory,
+            Some(tenant),
+            format_args!("{packets} packets were dropped: out of memory"),
         );
     }
 
@@ -241,10 +333,50 @@ impl News {
         }
     }
 
-    /// Prints that the plan was read anew.
-    pub fn tell_reload<R: Clock + Eprint>(&mut self, rt: &R, path: &str) {
-        self.messages
-            .say(rt, Kind::Reload, None, format_args!("{path}"));
+    /// Prints that the file was read again, with the reply that names the next book or the fault of the file.
+    pub fn tell_reload<R: Clock + Eprint>(&mut self, rt: &R, path: &str, reply: &str) {
+        match reply.strip_prefix("no ") {
+            Some(fault) => {
+                self.messages
+                    .say(rt, Kind::Reload, None, format_args!("refused: {fault}"))
+            }
+            None => self
+                .messages
+                .say(rt, Kind::Reload, None, format_args!("{path}: {reply}")),
+        }
+    }
+
+    /// Prints that a book was closed, and that the book of a number follows it, if one does.
+    pub fn tell_book<R: Clock + Eprint>(&mut self, rt: &R, books: &mut Books) {
+        let Some(closed) = books.take_closed() else {
+            return;
+        };
+        let ClosedBook {
+            number,
+            why,
+            packets,
+            amount,
+        } = closed;
+        let (open, why) = (books.number(), why_text(why));
+        if open == number {
+            self.messages.say(
+                rt,
+                Kind::Book,
+                None,
+                format_args!(
+                    "book {number} is the last: {why}, {packets} packets, amount {amount}"
+                ),
+            );
+        } else {
+            self.messages.say(
+                rt,
+                Kind::Book,
+                None,
+                format_args!(
+                    "book {open} follows book {number}: {why}, {packets} packets, amount {amount}"
+                ),
+            );
+        }
     }
 
     /// Prints which packets were dropped when a book followed another.
@@ -264,7 +396,25 @@ impl News {
                 format_args!("{bytes} bytes of frames"),
             );
         }
+    }
+
+    /// Prints that the gateway has ended, after the numbers of lines that were left out.
+    pub fn tell_ended<R: Clock + Eprint>(&mut self, rt: &R, left: Left) {
         self.messages.flush(rt);
+        let Left {
+            packets,
+            bytes,
+            is_closed,
+        } = left;
+        let state = if is_closed { "closed" } else { "open" };
+        self.messages.say(
+            rt,
+            Kind::Ended,
+            None,
+            format_args!(
+                "the last book is {state}, {packets} packets and {bytes} bytes of frames are left"
+            ),
+        );
     }
 
     // Prints the packets of each tenant that no frame carries.
@@ -282,6 +432,11 @@ impl News {
             );
         }
     }
+}
+
+// The word of a row for why a book was closed.
+fn why_text(why: Closing) -> &'static str {
+    str::from_utf8(why.text()).unwrap_or("")
 }
 
 // The name of the first field that no frame has.

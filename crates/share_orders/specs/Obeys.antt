@@ -4,6 +4,7 @@ use Rattle.share_base.specs.declared.command.Command.TheVariants.{Hold as HoldFl
 use Rattle.share_base.specs.declared.command.Reply.TheVariants.{Refused}
 use Rattle.share_base.specs.declared.refusal.Refusal.TheVariants.{Syntax}
 use Rattle.share_book.specs.Audited.{lacks_text}
+use Rattle.share_model.specs.link.Calls.{is_spent}
 use Rattle.share_book.specs.Book.{BookView}
 use Rattle.share_book.specs.Changes.{Amends, Changes}
 use Rattle.share_gateway.specs.PlanChanges.{with_hold}
@@ -21,17 +22,21 @@ use Rattle.share_orders.specs.declared.obeying.Duty.TheVariants.{
 use Rattle.share_orders.specs.declared.obeying.Obeyed.{Obeyed}
 use Rattle.share_orders.specs.declared.obeying.Obeyed.TheVariants.{Replied, Asks, Waits}
 
--- an order that is an event waits while the text has no room for its line. It also waits, as those that close the book,
--- while the disk fails
+-- the book takes no event: its text has no room for a line, or its life is spent
+abbrev pub takes_no_event : BookView → Bool
+takes_no_event book = lacks_text book.audited || is_spent book.audited.link
+
+-- an order that is an event waits while the book takes no event. It also waits, as those that close the book, while the
+-- disk fails
 abbrev pub waits : Bool → Bool → Order → Bool
-waits fails lacks Report = false
-waits fails lacks Status = false
-waits fails lacks (Hold name) = fails || lacks
-waits fails lacks (Resume name) = fails || lacks
-waits fails lacks (Amend name number amount) = fails || lacks
-waits fails lacks Rotate = fails
-waits fails lacks Reload = fails
-waits fails lacks End = false
+waits fails closed Report = false
+waits fails closed Status = false
+waits fails closed (Hold name) = fails || closed
+waits fails closed (Resume name) = fails || closed
+waits fails closed (Amend name number amount) = fails || closed
+waits fails closed Rotate = fails
+waits fails closed Reload = fails
+waits fails closed End = false
 
 -- the book is as it was, and this is asked of the gateway
 abbrev pub IsAsked : BookView → Duty → Obeyed → BookView → Type 0
@@ -65,7 +70,7 @@ Does old End obeyed new = IsAsked old EndDuty obeyed new
 
 abbrev pub Obeys : Bool → BookView → Order → Obeyed → BookView → Type 0
 Obeys fails old order obeyed new =
-    MatchBool (waits fails (lacks_text old.audited) order) ((obeyed ≡ Waits) × (new ≡ old)) (Does old order obeyed new)
+    MatchBool (waits fails (takes_no_event old) order) ((obeyed ≡ Waits) × (new ≡ old)) (Does old order obeyed new)
 
 -- a line that spells no order is answered, and does nothing
 abbrev pub ObeysLine : Bool → BookView → Option Order → Obeyed → BookView → Type 0

@@ -1,7 +1,6 @@
 //! The effect of an order on a book.
 ghost use Rattle.std.specs.Prelude.{◌≡◌, Some};
-ghost use Rattle.share_book.specs.Audited.{lacks_text};
-ghost use Rattle.share_orders.specs.Obeys.{Obeys, ObeysLine, waits};
+ghost use Rattle.share_orders.specs.Obeys.{Obeys, ObeysLine, takes_no_event, waits};
 ghost use Rattle.share_orders.specs.Orders.{order_in};
 
 use crate::orders::{Order, read_order};
@@ -31,15 +30,16 @@ pub enum Obeyed {
     Replied(Reply),
     /// It changes nothing of the open book, and asks this of the gateway.
     Asks(Duty),
-    /// It waits, and the lines after it do: it is obeyed again when the disk has taken text.
+    /// It waits, and the lines after it do: it is obeyed again when the disk has taken text, or by the next book.
     Waits,
 }
 
-/// Obeys an order. While the disk fails, orders that are events or that close the book wait.
+/// Obeys an order. An order that is an event waits for the next book if the life of this one is spent. While the disk
+/// fails, orders that are events or that close the book wait.
 pub fn obey<S: Rates>(book: &mut Book<S>, fails: bool, order: Order) -> Obeyed
     ensures { Obeys fails book.old order result book.new }
 {
-    if waits(fails, book.lacks_text(), &order) {
+    if waits(fails, takes_no_event(book), &order) {
         return Obeyed::Waits;
     }
     match order {
@@ -69,13 +69,20 @@ pub fn obey_line<S: Rates>(book: &mut Book<S>, fails: bool, line: &[u8]) -> Obey
     }
 }
 
-// Whether an order waits.
-fn waits(fails: bool, lacks: bool, order: &Order) -> bool
-    ensures { result ≡ waits fails lacks order.now }
+// Whether a book takes no event: its text has no room for a line, or its life is spent.
+fn takes_no_event<S: Rates>(book: &Book<S>) -> bool
+    ensures { result ≡ takes_no_event book.now }
+{
+    book.lacks_text() || book.engine().spent()
+}
+
+// Whether an order waits, at a book that takes no event if `closed` is true.
+fn waits(fails: bool, closed: bool, order: &Order) -> bool
+    ensures { result ≡ waits fails closed order.now }
 {
     match order {
         Order::Report | Order::Status | Order::End => false,
-        Order::Hold(_) | Order::Resume(_) | Order::Amend { .. } => fails || lacks,
+        Order::Hold(_) | Order::Resume(_) | Order::Amend { .. } => fails || closed,
         Order::Rotate | Order::Reload => fails,
     }
 }

@@ -1,6 +1,7 @@
 //! The effects of the lines of control connections.
 
 use crate::reactor::Reactor;
+use crate::telling::changes;
 use share_base::{Refusal, Reply};
 use share_catalog::Closing;
 use share_controls::Front;
@@ -62,14 +63,35 @@ impl Reactor<'_> {
             Front::OverLong => None,
             Front::Line => read_order(connection.line()),
         };
+        self.sockets.controls.lend_memory();
+        let Some(order) = order else {
+            self.refuse(key);
+            return true;
+        };
+        let is_change = changes(&order);
         let Some(answer) = self.answer_to(rt, path, order, now) else {
             return false;
         };
+        if is_change {
+            self.tell_order(rt, key, &answer);
+        }
         self.reply(key, answer);
         true
     }
 
-    // Gives a connection the reply to its line, or closes it if there is no memory for that.
+    // Answers a line that spells no order. A connection whose first line it is takes no other, unless it is standard
+    // input.
+    fn refuse(&mut self, key: usize) {
+        let answer = reply_text(self.alloc, &Reply::Refused(Refusal::Syntax));
+        if let Some(connection) = self.sockets.controls.get(key) {
+            match answer {
+                Ok(text) => connection.refuse(text.as_slice()),
+                Err(_) => connection.close(),
+            }
+        }
+    }
+
+    // Gives a connection the reply to its order, or closes it if there is no memory for that.
     fn reply(&mut self, key: usize, answer: Result<Vec<u8>, Refusal>) {
         if let Some(connection) = self.sockets.controls.get(key) {
             match answer {
@@ -79,17 +101,14 @@ impl Reactor<'_> {
         }
     }
 
-    // The reply to a line, which spells an order or none. `None` if the order waits.
+    // The reply to an order. `None` if the order waits.
     fn answer_to<R: Files<File = File> + Net + Clock + Eprint>(
         &mut self,
         rt: &R,
         path: &str,
-        order: Option<Order>,
+        order: Order,
         now: Instant,
     ) -> Option<Result<Vec<u8>, Refusal>> {
-        let Some(order) = order else {
-            return Some(reply_text(self.alloc, &Reply::Refused(Refusal::Syntax)));
-        };
         match self.obey_order(order) {
             Obeyed::Waits => None,
             Obeyed::Replied(reply) => Some(reply_text(self.alloc, &reply)),
@@ -126,7 +145,7 @@ impl Reactor<'_> {
         match duty {
             Duty::Report => self.books.report(),
             Duty::Status => text_of(self.parts().status()),
-            Duty::Reload => text_of(self.reload(rt, path)),
+            Duty::Reload => self.reload(rt, path),
             Duty::Rotate => {
                 self.books.close(Closing::Rotate);
                 text_of(self.next_book())
@@ -144,8 +163,8 @@ impl Reactor<'_> {
     }
 }
 
-// A reply, for which memory may have been refused.
-fn text_of(text: Result<Vec<u8>, AllocError>) -> Result<Vec<u8>, Refusal> {
+/// A reply, for which memory may have been refused.
+pub(crate) fn text_of(text: Result<Vec<u8>, AllocError>) -> Result<Vec<u8>, Refusal> {
     match text {
         Ok(text) => Ok(text),
         Err(_) => Err(Refusal::NoMemory),

@@ -4,9 +4,12 @@ use mio::Events;
 use share_answers::Parts;
 use share_base::FlowNo;
 use share_catalog::Closing;
-use share_gateway_sockets::GatewaySockets;
+use share_disk::Folder;
+use share_gateway_sockets::{GatewaySockets, InputUse};
 use share_news::News;
-use share_reload::{ControlHolds, Roster};
+use share_notify::{Manager, Notifier, Summary, UplinkWord};
+use share_numbering::Flows;
+use share_reload::ControlHolds;
 use share_rotation::{Books, Frame, Left, Made};
 use share_settings::Settings;
 use std::alloc::Global;
@@ -37,15 +40,17 @@ pub(crate) enum Rest {
     Paced,
 }
 
-/// The options of a gateway: its end and its messages.
+/// The options of a gateway: its end, its messages, and the service manager that waits for notices.
 #[derive(Clone, Copy, Debug)]
-pub struct Options {
+pub struct Options<'a> {
     /// The seconds for which frames that can be sent are sent once the end has begun.
     pub grace: u64,
-    /// Whether the end of standard input begins the end.
-    pub until_eof: bool,
+    /// The meaning of standard input.
+    pub input: InputUse,
     /// Whether only the messages of losses are printed.
     pub is_quiet: bool,
+    /// The service manager.
+    pub manager: Manager<'a>,
 }
 
 /// The phase of the end of a gateway.
@@ -66,9 +71,14 @@ pub struct Reactor<'b> {
     pub(crate) sockets: GatewaySockets,
     pub(crate) books: &'b mut Books,
     pub(crate) news: News,
+    pub(crate) notifier: Notifier,
+    // The folder of the books, where the numbers of names are kept.
+    pub(crate) folder: &'b Folder,
     // The state that a reload is compared with: the settings, the numbers that names have, and what control lines hold.
     pub(crate) settings: Settings,
-    pub(crate) roster: Roster,
+    pub(crate) flows: Flows,
+    // Whether the folder may have other numbers, or may lose them, since a call of the system for them failed.
+    pub(crate) are_flows_doubted: bool,
     pub(crate) holds: ControlHolds,
     pub(crate) grace: u64,
     pub(crate) ending: Ending,
@@ -110,6 +120,7 @@ impl Reactor<'_> {
         path: &str,
     ) -> io::Result<Left> {
         let mut events = Events::with_capacity(self.alloc, EVENTS)?;
+        self.notifier.ready(self.alloc);
         let mut pause = Some(Duration::from_millis(0));
         for _ in rt.forever() {
             self.sockets.poll.poll(&mut events, pause)?;
@@ -119,9 +130,25 @@ impl Reactor<'_> {
             if let Some(left) = self.end(rt, now) {
                 return Ok(left);
             }
+            let summary = self.summary();
+            self.notifier.tick(self.alloc, summary, now);
             pause = self.pause(rest, now);
         }
         unreachable!()
+    }
+
+    // What the status of the service manager says.
+    fn summary(&self) -> Summary {
+        Summary {
+            book: self.books.number(),
+            tenants: self.settings.ports.len() as u64,
+            uplink: match &self.sockets.uplink {
+                None => UplinkWord::Absent,
+                Some(uplink) if uplink.is_up() => UplinkWord::Up,
+                Some(_) => UplinkWord::Down,
+            },
+            disk_fails: self.books.disk_fault().is_some(),
+        }
     }
 
     // Does what is at hand.
@@ -145,6 +172,7 @@ impl Reactor<'_> {
         is_busy |= self.serve_web(rt, now);
         is_busy |= self.go_on(rt, now);
         if !matches!(self.ending, Ending::Closing(_)) {
+            self.news.tell_book(rt, self.books);
             self.news.tell_remainders(rt, self.books);
         }
         self.rest(is_busy)
@@ -228,12 +256,13 @@ impl Reactor<'_> {
     pub(crate) fn begin_end(&mut self, now: Instant) {
         if let Ending::No = self.ending {
             self.ending = Ending::Sending(now);
+            self.notifier.stopping(self.alloc);
         }
     }
 
     // Goes on with the end. Returns what was left once it is over.
     fn end<R: Clock + Wait + Eprint>(&mut self, rt: &R, now: Instant) -> Option<Left> {
-        if self.sockets.input.drain() {
+        if self.sockets.input.drain() || self.sockets.controls.has_input_ended() {
             self.begin_end(now);
         }
         match self.ending {
@@ -286,7 +315,11 @@ impl Reactor<'_> {
         }
         self.books.abandon();
         let left = self.books.left();
+        if left.is_closed {
+            self.news.tell_book(rt, self.books);
+        }
         self.news.tell_left(rt, self.books);
+        self.news.tell_ended(rt, left);
         Some(left)
     }
 
@@ -303,6 +336,10 @@ impl Reactor<'_> {
         };
         let pause = until(pause, self.books.due(), now);
         let pause = match self.web_pause(now) {
+            Some(left) => shorter(pause, left),
+            None => pause,
+        };
+        let pause = match self.notifier.pause(now) {
             Some(left) => shorter(pause, left),
             None => pause,
         };

@@ -12,7 +12,7 @@ use Rattle.share_model.specs.funding.Graph.{NameBytes}
 use Rattle.share_gateway.specs.Plan.{PlanView, TenantView}
 use Rattle.share_gateway.specs.PlanChanges.{is_tenant, held_as, with_hold}
 use Rattle.share_reload.specs.declared.holds.ControlHold.{ControlHold}
-use Rattle.share_reload.specs.Rosters.{names_of, HaveOwnNames}
+use Rattle.share_reload.specs.Holds.{names_of, HaveOwnNames}
 use Rattle.share_reload.specs.Holds.{holds, kept_at, hold_by, with_holds, held_at, held_in}
 
 -- ---- Holds that are kept

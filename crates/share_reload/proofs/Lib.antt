@@ -1,4 +1,3 @@
 pub mod HoldLemmas
 pub mod ListLemmas
 pub mod OriginLemmas
-pub mod RosterLemmas

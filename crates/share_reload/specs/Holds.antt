@@ -1,5 +1,5 @@
 -- The tenants that control lines hold.
-use Rattle.std.specs.Prelude.{Bool, true, ◌&&◌, List, map, fold, bytes_eq, if◌then◌else◌}
+use Rattle.std.specs.Prelude.{◌≢◌, Bool, true, ◌&&◌, List, map, fold, bytes_eq, if◌then◌else◌, AllPairs}
 use Rattle.std.specs.List.{list_any}
 use Rattle.share_model.specs.funding.Graph.{NameBytes}
 use Rattle.share_gateway.specs.Plan.{PlanView, TenantView}
@@ -25,6 +25,13 @@ abbrev pub kept : List ControlHold → PlanView → List ControlHold
 kept hs p = map (kept_at hs) p.tenants
 
 -- ---- The plan
+
+-- no two tenants of the plan have one name
+abbrev pub names_of : List TenantView → List NameBytes
+names_of ts = map (λ (t : TenantView). t.name) ts
+
+abbrev pub HaveOwnNames : PlanView → Type 0
+HaveOwnNames p = AllPairs (λ (m n : NameBytes). m ≢ n) (names_of p.tenants)
 
 -- each hold is made in the plan, one after the other
 abbrev pub hold_by : PlanView → ControlHold → PlanView

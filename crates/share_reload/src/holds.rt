@@ -1,12 +1,10 @@
 //! The tenants that control lines hold.
-ghost use Rattle.std.specs.Prelude.{◌≡◌, ◌&&◌, true, false, [], map, IfOk};
+ghost use Rattle.std.specs.Prelude.{◌≡◌, ◌&&◌, true, false, [], map, bytes_eq, IfOk};
 ghost use Rattle.std.specs.List.{list_any};
 ghost use Rattle.share_model.specs.funding.Graph.{NameBytes};
 ghost use Rattle.share_gateway.specs.PlanChanges.{is_tenant};
-ghost use Rattle.share_reload.specs.Rosters.{HaveOwnNames};
-ghost use Rattle.share_reload.specs.Holds.{holds, note_at, noted, kept_at, kept, with_holds, held_in};
+ghost use Rattle.share_reload.specs.Holds.{holds, note_at, noted, kept_at, kept, with_holds, held_in, HaveOwnNames};
 
-use crate::clash::is_same_name;
 use share_base::Name;
 use share_gateway::{Plan, Tenant};
 use std::alloc::{AllocError, Global};
@@ -142,4 +140,11 @@ fn hold_of(holds: &[ControlHold], tenant: &Tenant) -> ControlHold
         name: tenant.name,
         held: is_held(holds, tenant.name),
     }
+}
+
+// Whether two names are the same.
+fn is_same_name(name: Name, other: Name) -> bool
+    ensures { result ≡ bytes_eq name other }
+{
+    name.as_bytes() == other.as_bytes()
 }

@@ -64,7 +64,10 @@ fn is_uplink_kept(old: Option<Uplink>, new: Option<Uplink>) -> bool
 fn is_same_uplink(old: Uplink, new: Uplink) -> bool
     ensures { IsTrue result ↔ (old ≡ new) }
 {
-    is_same_peer(old.to, new.to) && old.rate == new.rate && old.buffer == new.buffer
+    is_same_peer(old.to, new.to)
+        && old.rate == new.rate
+        && old.buffer == new.buffer
+        && old.timeout == new.timeout
 }
 
 fn is_same_peer(old: Peer, new: Peer) -> bool
@@ -85,7 +88,7 @@ fn are_same_books(old: &Books, new: &Books) -> bool
 fn is_same_control(old: &Control, new: &Control) -> bool
     ensures { IsTrue result ↔ (old.now ≡ new.now) }
 {
-    is_same_listener(&old.listen, &new.listen) && old.mode == new.mode
+    is_same_listener(&old.listen, &new.listen) && old.mode == new.mode && old.group == new.group
 }
 
 fn is_same_listener(old: &Listener, new: &Listener) -> bool

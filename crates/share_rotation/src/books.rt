@@ -1,5 +1,6 @@
 //! The open book, and the turns that it makes.
 
+use crate::closed::ClosedBook;
 use crate::moments::{end_of_period, time_now};
 use crate::pace::Pace;
 use crate::sent::SentCounts;
@@ -39,6 +40,8 @@ pub struct Books {
     pub(crate) opened: Time,
     pub(crate) period_end: Option<Instant>,
     pub(crate) succession: Succession,
+    // The book that was closed last, if it was not reported.
+    pub(crate) closed: Option<ClosedBook>,
     // Whether the disk fails. While it does no event is made.
     pub(crate) is_stalled: bool,
     // When text is made durable, if some of it is not.
@@ -123,6 +126,7 @@ impl Opening {
             opened,
             period_end: end_of_period(period, now),
             succession: Succession::none(),
+            closed: None,
             is_stalled: false,
             sync_at: None,
             sent,

@@ -1,6 +1,11 @@
 //! The close of a book, and the beginning of the next one.
+ghost use Rattle.std.specs.Prelude.{◌≡◌, true, IfOk};
+ghost use Rattle.share_lives.specs.Lives.{after_follow, next_rates};
+ghost use Rattle.share_lives.specs.Tariffs.{book_tariffs};
+ghost use Rattle.share_writer.specs.Queue.{can_begin, with_close};
 
 use crate::books::Books;
+use crate::closed::ClosedBook;
 use crate::moments::{end_of_period, is_past, time_now};
 use crate::succession::Succession;
 use share_book::Book;
@@ -63,7 +68,9 @@ impl Books {
     }
 
     // Closes the open book, and has the next one take over what waits in it. Nothing happens if memory is refused.
-    fn follow<R: Clock + Wait>(&mut self, rt: &R, why: Closing, now: Instant) -> io::Result<()> {
+    fn follow<R: Clock + Wait>(&mut self, rt: &R, why: Closing, now: Instant) -> io::Result<()>
+        requires { can_begin self.old.queue ≡ true }
+    {
         let opened = time_now(rt)?;
         let tariffs = self.life.next_tariffs()?;
         let close = self.close_at(why, opened)?;
@@ -80,19 +87,18 @@ impl Books {
     }
 
     /// The lines that are written of the open book at its close.
-    pub(crate) fn close_at(&self, why: Closing, closed: Time) -> io::Result<BookClose> {
+    pub(crate) fn close_at(&self, why: Closing, closed: Time) -> io::Result<BookClose>
+        ensures { IfOk result (λ close. close.tariffs ≡ book_tariffs self.now.life.rates) }
+    {
         match self.life.book() {
             None => Err(Error::from(ErrorKind::NotFound)),
             Some(book) => self.close_of(book, why, closed),
         }
     }
 
-    fn close_of(
-        &self,
-        book: &Book<PlainShelf>,
-        why: Closing,
-        closed: Time,
-    ) -> io::Result<BookClose> {
+    fn close_of(&self, book: &Book<PlainShelf>, why: Closing, closed: Time) -> io::Result<BookClose>
+        ensures { IfOk result (λ close. close.tariffs ≡ book_tariffs self.now.life.rates) }
+    {
         let tariffs = self.life.tariffs()?;
         let Ok(report) = self.life.report() else {
             return Err(Error::from(ErrorKind::OutOfMemory));
@@ -108,7 +114,8 @@ impl Books {
         })
     }
 
-    // The next book begins, in the second in which the open one is closed. Nothing here can fail.
+    // The next book begins with its tariffs, in the second in which the open one is closed with its own. Nothing here
+    // can fail.
     fn give_way<R: Wait>(
         &mut self,
         rt: &R,
@@ -116,10 +123,17 @@ impl Books {
         tariffs: Tariffs,
         close: BookClose,
         now: Instant,
-    ) {
+    )
+        requires begins { can_begin self.old.queue ≡ true }
+        requires next { tariffs ≡ book_tariffs (next_rates self.old.life.rates self.old.life.next) }
+        requires open { close.tariffs ≡ book_tariffs self.old.life.rates }
+        ensures life { self.new.life ≡ after_follow next self.old.life.stage self.old.life }
+        ensures queue { self.new.queue ≡ with_close self.old.queue }
+    {
+        self.closed = Some(ClosedBook::of(self.number, &close));
         self.number = self.number.saturating_add(1);
         self.opened = close.closed;
-        let _ = self.queue.begin_next(rt, self.number, tariffs, close);
+        self.queue.begin_next(rt, self.number, tariffs, close);
         self.life.follow(next);
         self.period_end = end_of_period(self.period, now);
         self.succession = Succession::none();

@@ -1,6 +1,7 @@
 //! The close of the last book.
 
 use crate::books::Books;
+use crate::closed::ClosedBook;
 use crate::moments::time_now;
 use crate::pace::LONGEST_FRAME;
 use share_catalog::Closing;
@@ -53,6 +54,7 @@ impl Books {
         }
         match self.last_close(rt) {
             Ok(close) => {
+                self.closed = Some(ClosedBook::of(self.number, &close));
                 self.queue.finish(rt, close);
                 self.leave();
                 true

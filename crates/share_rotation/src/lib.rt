@@ -3,6 +3,7 @@
 #![tactic(auto)]
 
 mod books;
+mod closed;
 mod closing;
 mod ending;
 mod moments;
@@ -13,6 +14,7 @@ mod succession;
 mod text;
 
 pub use books::{Books, Made, UseBooks, with_books};
+pub use closed::ClosedBook;
 pub use ending::Left;
 pub use sent::Sent;
 pub use share_lives::{Frame, NextPlan, Remainder, tariffs_of};

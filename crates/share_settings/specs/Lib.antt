@@ -1,3 +1,4 @@
+pub mod Buffers
 pub mod Ports
 pub mod Same
 pub mod Settings

@@ -1,5 +1,5 @@
 -- The view of the settings of a gateway in contracts.
-use Rattle.std.specs.Prelude.{List, Option}
+use Rattle.std.specs.Prelude.{ℕ, List, Option}
 use Rattle.share_model.specs.declared.rates.Rate.{Rate}
 use Rattle.share_gateway.specs.Plan.{PlanView}
 use Rattle.share_settings.specs.declared.section.Uplink.{Uplink}
@@ -18,3 +18,4 @@ pub record SettingsView : Type 0 where
   pub tariffs : List Rate
   pub plan : PlanView
   pub ports : List PortsView
+  pub flows : List (Option ℕ)

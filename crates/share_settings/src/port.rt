@@ -39,11 +39,12 @@ pub enum Port {
     Descriptor(u32),
 }
 
-/// The ports of a tenant, and the mode of its Unix sockets.
+/// The ports of a tenant, and the mode of its Unix sockets. They have this group, if the file gives one.
 #[derive(Debug, Drop)]
 pub struct TenantPorts {
     pub ports: Vec<Port>,
     pub mode: u32,
+    pub group: Option<u64>,
 }
 
 impl Model for TenantPorts {
@@ -51,7 +52,7 @@ impl Model for TenantPorts {
 
     ghost Value = { PortsView };
 
-    ghost view = { λ t. record { ports = t.ports.items; mode = t.mode } };
+    ghost view = { λ t. record { ports = t.ports.items; mode = t.mode; group = t.group } };
 }
 
 impl Peer {

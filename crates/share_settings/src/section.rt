@@ -1,4 +1,7 @@
 //! The sections of the settings that are not lists.
+ghost use Rattle.std.specs.Prelude.{◌≡◌};
+ghost use Rattle.share_settings.specs.Buffers.{rate_buffer, send_buffer};
+
 use crate::port::{Listener, Peer};
 use crate::text::Text;
 use std::net::{IpAddr, SocketAddr};
@@ -9,8 +12,36 @@ pub struct Uplink {
     pub to: Peer,
     /// Bytes of frames a second, if they are limited.
     pub rate: Option<u64>,
-    /// Bytes of the socket's send buffer.
-    pub buffer: u64,
+    /// Bytes of the socket's send buffer, if the file gives them.
+    pub buffer: Option<u64>,
+    /// The seconds after which a dial is given up, and for which a path may answer nothing.
+    pub timeout: u64,
+}
+
+/// The least bytes of a send buffer that a rate gives, and those without a rate.
+const LEAST_BUFFER: u64 = 262_144;
+
+/// The most bytes of a send buffer.
+const MOST_BUFFER: u64 = 16_777_216;
+
+impl Uplink {
+    /// Bytes of the socket's send buffer: those of the file, or what the rate carries in 200 milliseconds.
+    pub fn send_buffer(self) -> u64
+        ensures { result ≡ send_buffer self }
+    {
+        match (self.buffer, self.rate) {
+            (Some(bytes), _) => bytes,
+            (None, Some(rate)) => rate_buffer(rate),
+            (None, None) => LEAST_BUFFER,
+        }
+    }
+}
+
+// The bytes that a rate carries in 200 milliseconds, from 256 KiB to 16 MiB.
+fn rate_buffer(rate: u64) -> u64
+    ensures { result ≡ rate_buffer rate }
+{
+    (rate / 5).max(LEAST_BUFFER).min(MOST_BUFFER)
 }
 
 /// The content of the text of a book.
@@ -37,8 +68,9 @@ pub struct Books {
 #[derive(Debug, Drop)]
 pub struct Control {
     pub listen: Listener,
-    /// The mode of a Unix socket.
+    /// The mode of a Unix socket, and its group if the file gives one.
     pub mode: u32,
+    pub group: Option<u64>,
 }
 
 /// The listener at which the frames of another gateway come in.

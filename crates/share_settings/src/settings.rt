@@ -5,7 +5,8 @@ use share_gateway::Plan;
 use share_model::Rate;
 use std::marker::Model;
 
-/// The settings of a gateway. The ports are those of the plan's tenants, in their order.
+/// The settings of a gateway. The ports are those of the plan's tenants, and the flows the numbers that these ask for,
+/// in their order.
 pub struct Settings {
     pub uplink: Option<Uplink>,
     pub books: Books,
@@ -15,6 +16,7 @@ pub struct Settings {
     pub tariffs: Vec<Rate>,
     pub plan: Plan,
     pub ports: Vec<TenantPorts>,
+    pub flows: Vec<Option<u32>>,
 }
 
 // This is written out so that no crate above proves how each part is dropped.
@@ -29,12 +31,14 @@ impl Drop for Settings {
             tariffs,
             plan,
             ports,
+            flows,
         } = self;
         drop(books);
         drop(control);
         drop(tariffs);
         drop(plan);
         drop(ports);
+        drop(flows);
     }
 }
 
@@ -52,5 +56,6 @@ impl Model for Settings {
       tariffs = s.tariffs.items;
       plan = s.plan;
       ports = s.ports.items;
+      flows = s.flows.items;
     } };
 }

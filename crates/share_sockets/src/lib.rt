@@ -8,8 +8,10 @@ mod listener;
 mod packets;
 mod progress;
 mod received;
+mod standard;
 mod stream;
 mod system;
+mod unix;
 
 pub use datagrams::DatagramSocket;
 pub use device::Device;
@@ -18,3 +20,4 @@ pub use packets::PacketSocket;
 pub use progress::{Progress, outcome_of, progress_of};
 pub use received::{Received, datagram_of, packet_of, took_datagram, took_packet};
 pub use stream::{ReadHalf, Stream};
+pub use unix::{Access, UnixSocket};

@@ -1,49 +1,59 @@
 //! Listeners.
 
 use crate::stream::Stream;
-use mio::net::{TcpListener, UnixListener, UnixStream};
+use crate::system;
+use crate::unix::{Access, UnixSocket};
+use mio::net::TcpListener;
 use mio::{Interest, Registry, Token};
-use std::fs::{Files, Permissions};
-use std::io::ErrorKind;
+use std::fs::Files;
+use std::io;
 use std::net::{Net, SocketAddr};
-use std::os::unix::fs::PermissionsExt;
-use std::{fs, io};
+use std::os::fd::AsRawFd;
 
 /// A listener whose calls do not wait.
 pub enum Listener {
     Tcp(TcpListener),
-    Unix(UnixListener),
+    Unix(UnixSocket),
 }
 
 impl Drop for Listener {
     fn drop(self) {
         match self {
             Listener::Tcp(listener) => drop(listener),
-            Listener::Unix(listener) => drop(listener),
+            Listener::Unix(socket) => drop(socket),
         }
     }
 }
 
 impl Listener {
-    /// Listens at an address.
+    /// Listens at an address. Each connection that comes there has keepalive, so one whose far end is gone ends.
     pub fn bind(net: &impl Net, address: SocketAddr) -> io::Result<Listener> {
-        Ok(Listener::Tcp(TcpListener::bind(net, address)?))
+        let listener = TcpListener::bind(net, address)?;
+        system::keep_alive(listener.as_raw_fd())?;
+        Ok(Listener::Tcp(listener))
     }
 
-    /// Listens at the path of a Unix socket, whose file gets this mode. A file on which nobody listens is removed
-    /// first.
-    pub fn bind_path<R: Files + Net>(rt: &R, path: &str, mode: u32) -> io::Result<Listener> {
-        if is_abandoned(rt, path) {
-            fs::remove_file(rt, path)?;
+    /// Listens at the path of a Unix socket. A socket on which no process listens is removed first; any other file
+    /// there is a fault, and stays. The mode of the file is at no moment wider than that of `access`.
+    pub fn bind_path<R: Files + Net>(rt: &R, path: &str, access: Access) -> io::Result<Listener> {
+        Ok(Listener::Unix(UnixSocket::bind(rt, path, access)?))
+    }
+
+    /// Gives the file of a Unix socket, which is at this path, another mode and group. Without a group it gets the one
+    /// that the system gave it.
+    pub fn set_access(&self, files: &impl Files, path: &str, access: Access) -> io::Result<()> {
+        match self {
+            Listener::Tcp(_) => Ok(()),
+            Listener::Unix(socket) => socket.set_access(files, path, access),
         }
-        let listener = UnixListener::bind(rt, path)?;
-        Listener::set_mode(rt, path, mode)?;
-        Ok(Listener::Unix(listener))
     }
 
-    /// Gives the file of a Unix socket this mode.
-    pub fn set_mode(files: &impl Files, path: &str, mode: u32) -> io::Result<()> {
-        fs::set_permissions(files, path, Permissions::from_mode(mode))
+    /// Removes the file of a Unix socket, which is at this path, unless another file took its place.
+    pub fn remove_file(&self, files: &impl Files, path: &str) -> io::Result<()> {
+        match self {
+            Listener::Tcp(_) => Ok(()),
+            Listener::Unix(socket) => socket.remove_file(files, path),
+        }
     }
 
     /// The address at which it listens, or `None` if it listens at a path.
@@ -58,7 +68,9 @@ impl Listener {
     pub fn register(&mut self, registry: &Registry, token: Token) -> io::Result<()> {
         match self {
             Listener::Tcp(listener) => registry.register(listener, token, Interest::READABLE),
-            Listener::Unix(listener) => registry.register(listener, token, Interest::READABLE),
+            Listener::Unix(socket) => {
+                registry.register(&mut socket.listener, token, Interest::READABLE)
+            }
         }
     }
 
@@ -69,15 +81,7 @@ impl Listener {
                 let (stream, address) = listener.accept()?;
                 Ok((Stream::Tcp(stream), Some(address)))
             }
-            Listener::Unix(listener) => Ok((Stream::Unix(listener.accept()?.0), None)),
+            Listener::Unix(socket) => Ok((Stream::Unix(socket.listener.accept()?.0), None)),
         }
-    }
-}
-
-// Whether the path is that of a Unix socket on which nobody listens.
-fn is_abandoned(net: &impl Net, path: &str) -> bool {
-    match UnixStream::connect(net, path) {
-        Ok(_) => false,
-        Err(fault) => fault.kind() == ErrorKind::ConnectionRefused,
     }
 }

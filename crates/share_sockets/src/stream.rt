@@ -4,7 +4,7 @@ ghost use Rattle.share_sockets.specs.Failure.{IsFailure};
 ghost use Rattle.share_sockets.specs.Progress.{moved};
 
 use crate::progress::{Progress, answer_of, outcome_of, over_if_failed};
-use crate::system;
+use crate::{standard, system};
 use mio::net::{TcpStream, UnixStream};
 use mio::{Interest, Registry, Token};
 use std::io;
@@ -20,6 +20,8 @@ const ATTEMPTS: u32 = 8;
 pub enum Stream {
     Tcp(TcpStream),
     Unix(UnixStream),
+    /// Standard input, which is read, and standard output, which is written.
+    Standard,
 }
 
 impl Drop for Stream {
@@ -27,6 +29,7 @@ impl Drop for Stream {
         match self {
             Stream::Tcp(stream) => drop(stream),
             Stream::Unix(stream) => drop(stream),
+            Stream::Standard => (),
         }
     }
 }
@@ -37,16 +40,12 @@ impl Stream {
         Ok(Stream::Tcp(TcpStream::connect(net, address)?))
     }
 
-    /// Whether the attempt to connect has failed.
-    pub fn has_failed(&self) -> bool {
-        self.take_fault().is_some()
-    }
-
     /// Why the attempt to connect has failed, or `None` if it has not. The reason is given once.
     pub fn take_fault(&self) -> Option<Error> {
         let fault = match self {
             Stream::Tcp(stream) => stream.take_error(),
             Stream::Unix(stream) => stream.take_error(),
+            Stream::Standard => Ok(None),
         };
         match fault {
             Ok(fault) => fault,
@@ -58,6 +57,7 @@ impl Stream {
         match self {
             Stream::Tcp(stream) => stream.as_raw_fd(),
             Stream::Unix(stream) => stream.as_raw_fd(),
+            Stream::Standard => standard::INPUT,
         }
     }
 
@@ -67,20 +67,33 @@ impl Stream {
         system::set_send_buffer(self.raw_fd(), bytes)
     }
 
+    /// Has TCP find out that the far end is gone. If nothing comes, it is probed. If what was sent is not acknowledged,
+    /// the connection ends after about this many milliseconds. Other streams have their far end on this machine.
+    pub fn watch(&self, milliseconds: u64) -> io::Result<()> {
+        match self {
+            Stream::Tcp(stream) => {
+                system::keep_alive(stream.as_raw_fd())?;
+                system::set_timeout(stream.as_raw_fd(), milliseconds)
+            }
+            Stream::Unix(_) | Stream::Standard => Ok(()),
+        }
+    }
+
     /// Has TCP send small pieces at once, if this is true. If it was never set, TCP keeps a small piece until the far
     /// end has acknowledged those before it. A Unix socket always sends at once.
     pub fn set_nodelay(&self, nodelay: bool) -> io::Result<()> {
         match self {
             Stream::Tcp(stream) => stream.set_nodelay(nodelay),
-            Stream::Unix(_) => Ok(()),
+            Stream::Unix(_) | Stream::Standard => Ok(()),
         }
     }
 
-    /// Ends the half of the stream that is written. Written bytes go out before that.
+    /// Ends the half of the stream that is written. Written bytes go out before that. Standard output stays open.
     pub fn end_writing(&self) {
         let _ = match self {
             Stream::Tcp(stream) => stream.shutdown(Shutdown::Write),
             Stream::Unix(stream) => stream.shutdown(Shutdown::Write),
+            Stream::Standard => Ok(()),
         };
     }
 
@@ -99,6 +112,7 @@ impl Stream {
         match self {
             Stream::Tcp(stream) => registry.register(stream, token, interest),
             Stream::Unix(stream) => registry.register(stream, token, interest),
+            Stream::Standard => standard::register(registry, token),
         }
     }
 
@@ -130,6 +144,7 @@ impl Stream {
         match self {
             Stream::Tcp(stream) => read_from(stream, buffer),
             Stream::Unix(stream) => read_from(stream, buffer),
+            Stream::Standard => standard::read(buffer),
         }
     }
 
@@ -148,6 +163,7 @@ impl Stream {
         match self {
             Stream::Tcp(stream) => write_to(stream, bytes),
             Stream::Unix(stream) => write_to(stream, bytes),
+            Stream::Standard => standard::write(bytes),
         }
     }
 }

@@ -78,6 +78,14 @@ period_of text = do
   seconds ← seconds_of counted.1
   in_range 10 (counted.0 * seconds)
 
+-- seconds, from 2 to 600
+abbrev pub timeout_of : List ℕ → Option ℕ
+timeout_of text = do
+  counted ← with_unit text
+  seconds ← seconds_of counted.1
+  all ← in_range 2 (counted.0 * seconds)
+  if nat_le all 600 then Some all else None
+
 abbrev pub octal : ℕ → Option ℕ
 octal digit = if nat_le 48 digit && nat_le digit 55 then Some (digit - 48) else None
 

@@ -1,6 +1,7 @@
 //! Rates, times and modes.
 ghost use Rattle.std.specs.Prelude.{◌≡◌, None, Some, MatchOption};
 ghost use Rattle.share_spellings.specs.Amounts.{bits_of, seconds_of, rate_of, period_of, mode_of, number_of, octal};
+ghost use Rattle.share_spellings.specs.Amounts.{timeout_of};
 ghost use Rattle.std.specs.List.{list_all};
 ghost use Rattle.share_spellings.specs.Amounts.{with_unit, is_decimal, is_digit, begins_well};
 
@@ -23,6 +24,20 @@ pub fn read_period(text: &str) -> Option<u64>
     let (number, unit) = with_unit(text)?;
     let seconds = number.checked_mul(seconds_of(unit.as_bytes())?)?;
     if seconds < 10 { None } else { Some(seconds) }
+}
+
+/// The seconds of a text such as `15 s`, spelled as a period is. `None` if it is no such text, or if the seconds are
+/// not from 2 to 600.
+pub fn read_timeout(text: &str) -> Option<u64>
+    ensures { result ≡ timeout_of text.now }
+{
+    let (number, unit) = with_unit(text)?;
+    let seconds = number.checked_mul(seconds_of(unit.as_bytes())?)?;
+    if seconds < 2 || 600 < seconds {
+        None
+    } else {
+        Some(seconds)
+    }
 }
 
 /// The mode of a file, from a text such as `0600`: a zero and three octal digits.

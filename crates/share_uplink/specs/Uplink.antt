@@ -9,19 +9,20 @@ use Rattle.std.specs.declared.net.SocketAddr.{SocketAddr}
 use Rattle.share_gateway.specs.Outbox.{frame_bytes, ready_of}
 use Rattle.share_timing.specs.Redial.{first_pause, next_pause, pause_after}
 use Rattle.share_transit.specs.Transit.{TransitView}
+use Rattle.share_uplink.specs.declared.socket.Limits.{Limits}
 use Rattle.share_uplink.specs.declared.state.UplinkState.{UplinkState}
 use Rattle.share_uplink.specs.declared.state.UplinkState.TheVariants.{Up, Dialling}
 use Rattle.share_uplink.specs.declared.state.Work.{Work}
 use Rattle.share_uplink.specs.declared.state.Work.TheVariants.{Idle, Busy, Connected, Lost, Unreachable}
 
--- the address, and the size that is asked for its send buffer. Then comes whether it is connected, and if not, whether
+-- the address, and the limits of its socket. Then comes whether it is connected, and if not, whether
 -- a dial began. Then come since when either is so, or otherwise when it is dialled, and the milliseconds of the pause
 -- before the next dial but one. Then come the readiness of its socket, and the bytes that the last connection was
 -- given, and all. Last come the bytes that may be lost at the near end, by the last loss and by all. With them comes
 -- the kind of fault of the last loss or failed dial
 pub record UplinkView : Type 0 where
   pub address : SocketAddr
-  pub buffer : ℕ
+  pub limits : Limits
   pub state : UplinkState
   pub dials : Bool
   pub since : ℕ
@@ -51,7 +52,7 @@ later now milliseconds =
 
 -- the time that a dial which began may still take, or the time before one begins
 abbrev pub time_left : ℕ → UplinkView → ℕ
-time_left now u = if u.dials then 5_000_000_000 - (now - u.since) else u.since - now
+time_left now u = if u.dials then u.limits.timeout * 1_000_000_000 - (now - u.since) else u.since - now
 
 abbrev pub is_due : ℕ → UplinkView → Bool
 is_due now u = time_left now u == 0
@@ -63,10 +64,10 @@ pause_when_lost now u = pause_after (capped (((now - u.since) / 1_000_000_000) *
 -- ---- The changes of its state
 
 -- an uplink that was never dialled
-abbrev pub new_uplink : SocketAddr → ℕ → ℕ → UplinkView
-new_uplink address buffer now = record {
+abbrev pub new_uplink : SocketAddr → Limits → ℕ → UplinkView
+new_uplink address limits now = record {
   address = address;
-  buffer = buffer;
+  limits = limits;
   state = Dialling;
   dials = false;
   since = now;
@@ -110,7 +111,7 @@ connected now u = record u { state = Up; dials = false; since = now; given = 0 }
 -- the bytes of a connection that its socket may hold. They are at most what it was given, and at most twice what was
 -- asked for and a segment of 65536
 abbrev pub at_risk : UplinkView → ℕ
-at_risk u = min u.given (2 * u.buffer + 65536)
+at_risk u = min u.given (2 * u.limits.buffer + 65536)
 
 -- the connection was lost by a fault of this kind
 abbrev pub after_loss : ErrorKind → ℕ → UplinkView → UplinkView

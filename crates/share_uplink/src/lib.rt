@@ -7,6 +7,6 @@ mod socket;
 mod state;
 mod uplink;
 
-pub use socket::Transport;
+pub use socket::{Limits, Transport};
 pub use state::{UplinkState, Work};
 pub use uplink::Uplink;

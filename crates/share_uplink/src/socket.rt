@@ -15,6 +15,16 @@ pub enum Transport {
     Datagrams,
 }
 
+/// The limits of the socket of an uplink.
+#[derive(Clone, Copy, Debug, PartialEq, Eq)]
+pub struct Limits {
+    /// The bytes of its send buffer that are asked for. Of a stream these are written and not acknowledged. Of
+    /// datagrams they have not left. Linux doubles them.
+    pub buffer: u64,
+    /// The seconds after which a dial is given up, and after about which a path that answers nothing is lost.
+    pub timeout: u64,
+}
+
 /// The socket of an uplink.
 #[derive(Drop)]
 pub(crate) enum Socket {
@@ -30,6 +40,15 @@ impl Socket {
             Socket::Datagrams(_) => None,
         }
     }
+
+    /// Has the system find out that the far end is gone, if it answers nothing for about this many seconds. The limit
+    /// between two retransmissions would shorten a dial, so this is for a stream that is connected.
+    pub(crate) fn watch(&self, seconds: u64) -> io::Result<()> {
+        match self {
+            Socket::Stream(stream) => stream.watch(seconds.saturating_mul(1000)),
+            Socket::Datagrams(_) => Ok(()),
+        }
+    }
 }
 
 /// Begins to connect, with events under this token. The socket is writable once it is connected or has failed.
@@ -37,25 +56,25 @@ pub(crate) fn begin(
     net: &impl Net,
     transport: Transport,
     address: SocketAddr,
-    buffer: u64,
+    limits: Limits,
     registry: &Registry,
     token: Token,
 ) -> io::Result<Socket> {
     match transport {
-        Transport::Stream => begin_stream(net, address, buffer, registry, token),
-        Transport::Datagrams => begin_datagrams(net, address, buffer, registry, token),
+        Transport::Stream => begin_stream(net, address, limits, registry, token),
+        Transport::Datagrams => begin_datagrams(net, address, limits, registry, token),
     }
 }
 
 fn begin_stream(
     net: &impl Net,
     address: SocketAddr,
-    buffer: u64,
+    limits: Limits,
     registry: &Registry,
     token: Token,
 ) -> io::Result<Socket> {
     let mut stream = Stream::connect(net, address)?;
-    stream.set_send_buffer(buffer)?;
+    stream.set_send_buffer(limits.buffer)?;
     stream.set_nodelay(true)?;
     stream.register(registry, token, Interest::READABLE | Interest::WRITABLE)?;
     Ok(Socket::Stream(stream))
@@ -64,12 +83,12 @@ fn begin_stream(
 fn begin_datagrams(
     net: &impl Net,
     address: SocketAddr,
-    buffer: u64,
+    limits: Limits,
     registry: &Registry,
     token: Token,
 ) -> io::Result<Socket> {
     let mut socket = DatagramSocket::connect(net, address)?;
-    socket.set_send_buffer(buffer)?;
+    socket.set_send_buffer(limits.buffer)?;
     socket.register(registry, token, Interest::READABLE | Interest::WRITABLE)?;
     Ok(Socket::Datagrams(socket))
 }

@@ -7,8 +7,8 @@ ghost use Rattle.share_uplink.specs.declared.state.UplinkState.TheVariants.{Up};
 
 use crate::socket::Socket;
 use std::io::{Error, ErrorKind};
-use std::mem;
 use std::time::Instant;
+use std::{io, mem};
 
 /// The state of an uplink.
 #[derive(Drop)]
@@ -48,6 +48,14 @@ impl State {
         match self {
             State::Dialling(socket, _) => socket.take_fault(),
             _ => None,
+        }
+    }
+
+    /// Has the system find out that the far end of a dial that began is gone.
+    pub(crate) fn watch(&self, seconds: u64) -> io::Result<()> {
+        match self {
+            State::Dialling(socket, _) => socket.watch(seconds),
+            _ => Ok(()),
         }
     }
 
@@ -106,5 +114,5 @@ pub(crate) fn far_end_closed() -> Error
 pub(crate) fn no_answer() -> Error
     ensures { error_kind result ≡ ErrorKind.TimedOut }
 {
-    Error::new(ErrorKind::TimedOut, "no answer in 5 seconds")
+    Error::new(ErrorKind::TimedOut, "no answer in time")
 }

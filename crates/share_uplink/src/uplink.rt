@@ -12,7 +12,7 @@ ghost use Rattle.share_uplink.specs.declared.state.Work.TheVariants.{Idle};
 ghost use Rattle.share_uplink.specs.declared.uplink.Due.TheVariants.{Nothing, Dial, GiveUp};
 
 use crate::passing::{Ready, exchange, has_work};
-use crate::socket::{Transport, begin};
+use crate::socket::{Limits, Transport, begin};
 use crate::state::{State, UplinkState, Work, no_answer};
 use mio::{Registry, Token};
 use share_timing::Redial;
@@ -21,9 +21,6 @@ use std::io::Error;
 use std::marker::Model;
 use std::net::{Net, SocketAddr};
 use std::time::{Duration, Instant};
-
-/// The seconds after which a dial is given up.
-const DIAL_SECONDS: u64 = 5;
 
 /// The action of an uplink that is due.
 #[derive(Clone, Copy, Debug, PartialEq, Eq)]
@@ -38,8 +35,7 @@ enum Due {
 pub struct Uplink {
     address: SocketAddr,
     transport: Transport,
-    // The number of bytes that its socket is to hold.
-    buffer: u64,
+    limits: Limits,
     state: State,
     redial: Redial,
     // The readiness of the socket.
@@ -59,7 +55,7 @@ impl Drop for Uplink {
         let Uplink {
             address: _,
             transport: _,
-            buffer: _,
+            limits: _,
             state,
             redial,
             ready: _,
@@ -83,7 +79,7 @@ impl Model for Uplink {
     ghost view = { λ u.
         record {
           address = u.address;
-          buffer = u.buffer;
+          limits = u.limits;
           state = state_of u.state;
           dials = dials_of u.state;
           since = since_of u.state;
@@ -104,15 +100,14 @@ const NOT_READY: Ready = Ready {
 };
 
 impl Uplink {
-    /// An uplink that is to be dialled at once. Its socket is to hold that many written bytes that the far end has not
-    /// acknowledged. If it sends datagrams, these are bytes that have not left. Linux doubles that.
-    pub fn new(address: SocketAddr, transport: Transport, buffer: u64, now: Instant) -> Uplink
-        ensures { result ≡ new_uplink address buffer (instant_nanos now) }
+    /// An uplink that is to be dialled at once.
+    pub fn new(address: SocketAddr, transport: Transport, limits: Limits, now: Instant) -> Uplink
+        ensures { result ≡ new_uplink address limits (instant_nanos now) }
     {
         Uplink {
             address,
             transport,
-            buffer,
+            limits,
             state: State::Away(now),
             redial: Redial::new(),
             ready: NOT_READY,
@@ -189,7 +184,7 @@ impl Uplink {
     {
         match &self.state {
             State::Away(at) => Some(at.saturating_duration_since(now)),
-            State::Dialling(_, since) => Some(dial_time_left(*since, now)),
+            State::Dialling(_, since) => Some(dial_time_left(self.limits.timeout, *since, now)),
             State::Up(..) => None,
         }
     }
@@ -223,7 +218,7 @@ impl Uplink {
                 }
             }
             State::Dialling(_, since) => {
-                if dial_time_left(*since, now).is_zero() {
+                if dial_time_left(self.limits.timeout, *since, now).is_zero() {
                     Due::GiveUp
                 } else {
                     Due::Nothing
@@ -243,7 +238,7 @@ impl Uplink {
             net,
             self.transport,
             self.address,
-            self.buffer,
+            self.limits,
             registry,
             token,
         ) {
@@ -274,7 +269,7 @@ impl Uplink {
         let stood = milliseconds_between(self.state.since(), now);
         self.redial.stood(stood);
         self.wait(now);
-        self.lost_at_most = at_risk(self.given, self.buffer);
+        self.lost_at_most = at_risk(self.given, self.limits.buffer);
         self.lost = self.lost.saturating_add(self.lost_at_most);
         self.fault = Some(fault);
         Work::Lost
@@ -320,6 +315,9 @@ impl Uplink {
             return Work::Idle;
         }
         if let Some(fault) = self.state.fault() {
+            return self.miss(now, fault);
+        }
+        if let Err(fault) = self.state.watch(self.limits.timeout) {
             return self.miss(now, fault);
         }
         if !self.state.connect(now) {
@@ -390,9 +388,9 @@ fn milliseconds_between(since: Instant, now: Instant) -> u64
         .saturating_mul(1000)
 }
 
-// The time that a dial may still take.
-fn dial_time_left(since: Instant, now: Instant) -> Duration
-    ensures { as_nanos result ≡ 5_000_000_000 - (instant_nanos now - instant_nanos since) }
+// The time that a dial may still take of these seconds.
+fn dial_time_left(timeout: u64, since: Instant, now: Instant) -> Duration
+    ensures { as_nanos result ≡ timeout * 1_000_000_000 - (instant_nanos now - instant_nanos since) }
 {
-    Duration::from_secs(DIAL_SECONDS).saturating_sub(now.saturating_duration_since(since))
+    Duration::from_secs(timeout).saturating_sub(now.saturating_duration_since(since))
 }

@@ -1,7 +1,5 @@
 -- The lines of a text.
-use Rattle.std.specs.Prelude.{◌≡◌, ◌≢◌, ◌<◌, ℕ, List, ◌∷◌, ◌++◌, codes, length, slice_index}
-use Rattle.share_catalog.specs.Texts.{tariffs_text}
-use Rattle.share_catalog.specs.declared.tariffs.BookTariff.{BookTariff}
+use Rattle.std.specs.Prelude.{◌≡◌, ◌≢◌, ◌<◌, ℕ, List, ◌∷◌, ◌++◌, length, slice_index}
 
 -- no line of it has a line feed
 abbrev pub HasNoLine : List ℕ → Type 0
@@ -11,7 +9,3 @@ HasNoLine text = (k : ℕ) → k < length text → slice_index text k ≢ 10
 pub record BeginsWithLine (text line rest : List ℕ) : Type 0 where
   pub joined : text ≡ line ++ 10 ∷ rest
   pub first : HasNoLine line
-
--- the line of tariffs, as their file has it
-abbrev pub tariffs_line : List BookTariff → List ℕ
-tariffs_line tariffs = tariffs_text tariffs ++ codes "\n"

@@ -1,8 +1,8 @@
 //! Whether the books that are given are those of the rows.
 ghost use Rattle.std.specs.Prelude.{◌≡◌, ◌<◌, ◌==◌, length, slice_index, take};
 ghost use Rattle.std.specs.List.{list_any};
-ghost use Rattle.share_catalog.specs.Billed.{is_bad_book, is_bad};
-ghost use Rattle.share_verification.specs.Given.{wrong_at, IsFirstFault};
+ghost use Rattle.share_verification.specs.Given.{says_bad, says_none, is_bad_book, is_unmade_book, wrong_at};
+ghost use Rattle.share_verification.specs.Given.{IsFirstFault};
 
 use share_catalog::{Closing, Row, first_missing};
 
@@ -13,6 +13,8 @@ pub enum WrongGiven {
     Twice,
     /// Its row says that its text is no run.
     Bad,
+    /// Its row says that the number has no book.
+    NoBook,
 }
 
 /// Why the books that are given are not those of the rows.
@@ -25,8 +27,8 @@ pub enum GivenFault {
 }
 
 /// The first fault of the books of these numbers, beside the rows: the first of them that is wrong. Otherwise it is the
-/// least number from the first to the last row for which no book is given. Rows whose text is not a run are passed
-/// over. `None` if there is no fault.
+/// least number from the first to the last row for which no book is given. Rows whose text is not a run, or that have
+/// no book, are passed over. `None` if there is no fault.
 pub fn first_fault(rows: &[Row], given: &[u64]) -> Option<GivenFault>
     ensures { IsFirstFault rows.now given.now result }
 {
@@ -53,6 +55,9 @@ fn wrong_at(rows: &[Row], given: &[u64], index: usize) -> Option<WrongGiven>
     if is_set_aside(rows, number) {
         return Some(WrongGiven::Bad);
     }
+    if is_unmade(rows, number) {
+        return Some(WrongGiven::NoBook);
+    }
     None
 }
 
@@ -74,13 +79,42 @@ fn is_bad_book(row: &Row, number: u64) -> bool
     row.book == number && is_bad(row)
 }
 
+fn is_unmade(rows: &[Row], number: u64) -> bool
+    ensures { result ≡ list_any (is_unmade_book number) rows.now }
+{
+    rows.iter().any(|row| is_unmade_book(row, number))
+}
+
+fn is_unmade_book(row: &Row, number: u64) -> bool
+    ensures { result ≡ is_unmade_book number row.now }
+{
+    row.book == number && says_none(row)
+}
+
 /// Whether a row says that the text of its book is no run.
 pub fn is_bad(row: &Row) -> bool
-    ensures { result ≡ is_bad row.now.why }
+    ensures { result ≡ says_bad row.now.why }
 {
     match row.why {
         Closing::Bad => true,
-        Closing::Spent
+        Closing::NoBook
+        | Closing::Spent
+        | Closing::Period
+        | Closing::Reload
+        | Closing::Rotate
+        | Closing::End
+        | Closing::Cut => false,
+    }
+}
+
+// Whether a row says that its number has no book.
+fn says_none(row: &Row) -> bool
+    ensures { result ≡ says_none row.now.why }
+{
+    match row.why {
+        Closing::NoBook => true,
+        Closing::Bad
+        | Closing::Spent
         | Closing::Period
         | Closing::Reload
         | Closing::Rotate

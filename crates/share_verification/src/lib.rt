@@ -5,9 +5,7 @@ mod figures;
 mod given;
 mod lines;
 mod table;
-mod tariffs;
 
 pub use figures::{BookFigures, first_mismatch, row_of};
 pub use given::{GivenFault, WrongGiven, first_fault, is_bad};
 pub use table::{NotRows, WrongLine, read_rows};
-pub use tariffs::read_tariffs;

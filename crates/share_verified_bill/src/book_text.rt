@@ -1,4 +1,9 @@
 //! The text of a book, read once: its lines are run, and its bytes are digested.
+ghost use Rattle.std.specs.Prelude.{ℕ, List, IfOk, IfSome};
+ghost use Rattle.share_model.specs.declared.rates.Rate.{Rate};
+ghost use Rattle.share_tariff.specs.PlainShelf.{plain_rates_of};
+ghost use Rattle.share_bill.specs.Texts.{IsRunText};
+ghost use Rattle.share_verified_bill.specs.Verified.{IsRunOf};
 
 use crate::faults::BookFault;
 use sha2::{Digest as Hasher, Sha256};
@@ -9,11 +14,12 @@ use share_model::{Got, Rates, TellingReader};
 use share_tariff::PlainShelf;
 use std::alloc::Global;
 use std::cell::Cell;
-use std::fs::File;
 use std::io::{Error, ErrorKind, Read};
+use std::marker::Model;
 use std::mem;
 
-/// A file that is read, where its digest goes at its end, and where the reason goes if a read fails.
+/// A file that is read, where its digest goes at its end, and where the reason goes if a read fails. A contract sees
+/// the file.
 #[derive(Drop)]
 struct DigestedFile<'a, F> {
     file: F,
@@ -22,13 +28,18 @@ struct DigestedFile<'a, F> {
     fault: &'a Cell<Option<Error>>,
 }
 
+impl<'a, F> Model for DigestedFile<'a, F> {
+    ghost Value = { F };
+
+    ghost view = { λ reader. reader.file };
+}
+
 impl<'a, F: Read> TellingReader for DigestedFile<'a, F> {
-    ghost use Rattle.share_model.specs.io.Given.{Gives};
+    ghost use Rattle.share_billing.specs.Given.{gives_by};
 
-    ghost left = { λ reader. F.remaining reader.file };
+    ghost left = { F.remaining };
 
-    ghost gives = { λ before buffer got after.
-        Gives (F.remaining before.file) buffer got (F.remaining after.file) };
+    ghost gives = { gives_by F.remaining };
 
     ghost tells = { λ before buffer got after given. given };
 
@@ -65,7 +76,14 @@ pub(crate) struct RunBook {
 }
 
 /// Runs the text of a file under these tariffs.
-pub(crate) fn run_file(alloc: Global, shelf: PlainShelf, file: File) -> Result<RunBook, BookFault> {
+pub(crate) fn run_file<F: Read + Drop>(
+    alloc: Global,
+    shelf: PlainShelf,
+    file: F,
+) -> Result<RunBook, BookFault>
+    ensures { IfOk result (λ ran. IfSome (F.remaining file) (λ bytes.
+        IsRunOf (plain_rates_of shelf) bytes ran.rows.items ran.units ran.amount)) }
+{
     let digest = Cell::new(None);
     let fault = Cell::new(None);
     let text = DigestedFile {
@@ -85,7 +103,10 @@ fn run_book<S: Rates + Drop>(
     alloc: Global,
     run: TextRun<S>,
     digest: Option<Digest>,
-) -> Result<RunBook, BookFault> {
+) -> Result<RunBook, BookFault>
+    ensures { IfOk result (λ ran. (rates : List Rate) (bytes : List ℕ) → IsRunText rates bytes run.bill run.cut
+        → IsRunOf rates bytes ran.rows.items ran.units ran.amount) }
+{
     let totals = book_totals(run.bill.engine());
     let cut = run.cut;
     let rows = run.bill.rows(alloc);

@@ -1,7 +1,7 @@
 //! The text on standard error if there is no bill.
 
 use share_bill::NotBilled;
-use share_billing::Shown;
+use share_billing::{BookFault as TextFault, Shown};
 use share_catalog::{Column, Mismatch};
 use share_verification::{WrongGiven, WrongLine};
 use std::fmt;
@@ -33,6 +33,16 @@ pub(crate) enum BookFault {
     Text(NotBilled),
     /// Its row has another figure.
     Figure(Mismatch),
+}
+
+impl BookFault {
+    /// Why a text without a row has no bill.
+    pub(crate) fn of(fault: TextFault) -> BookFault {
+        match fault {
+            TextFault::File(error) => BookFault::File(error),
+            TextFault::Text(reason) => BookFault::Text(reason),
+        }
+    }
 }
 
 /// The line on standard error for a file: its path, the line if there is one, and the reason.
@@ -111,6 +121,7 @@ fn reason_of(fault: BookFault) -> &'static str {
         BookFault::Name => "its name is not that of a book's text, as 000001.lengths",
         BookFault::Given(WrongGiven::Twice) => "its book is given twice",
         BookFault::Given(WrongGiven::Bad) => "the row of its book says bad",
+        BookFault::Given(WrongGiven::NoBook) => "the row of its book says none",
         BookFault::RowWithoutTariffs => "the row of its book has no tariffs",
         BookFault::NoTariffs => "its book has no row, and no file of tariffs is beside it",
         BookFault::NotTariffs => "the file of its tariffs has no tariffs",
@@ -126,12 +137,23 @@ fn reason_of(fault: BookFault) -> &'static str {
 pub(crate) struct BadLine<'a> {
     pub(crate) path: &'a str,
     pub(crate) book: u64,
+    /// Whether the beginning of its text is billed.
+    pub(crate) is_billed: bool,
 }
 
 impl<'a> Display for BadLine<'a> {
     fn fmt<W: fmt::Write>(&self, f: &mut Formatter<W>) -> fmt::Result {
-        let BadLine { path, book } = *self;
+        let BadLine {
+            path,
+            book,
+            is_billed,
+        } = *self;
         let path = Shown(path);
-        write!(f, "{path}: book {book} is bad, and has no bill")
+        let outcome = if is_billed {
+            "its beginning is billed"
+        } else {
+            "has no bill"
+        };
+        write!(f, "{path}: book {book} is bad, and {outcome}")
     }
 }

@@ -1,4 +1,7 @@
 //! The files that are given: the numbers in their names, and what lies beside them.
+ghost use Rattle.std.specs.Prelude.{◌≡◌, None, map, IfOk, OnOk};
+ghost use Rattle.share_verification.specs.Given.{IsFirstFault};
+ghost use Rattle.share_verified_bill.specs.Verified.{number_of};
 
 use crate::faults::BookFault;
 use crate::rows_file::say;
@@ -8,6 +11,13 @@ use share_verification::{GivenFault, first_fault};
 use std::alloc::Global;
 use std::io::{Eprint, ErrorKind};
 use std::{io, str};
+
+/// A book that is given.
+#[derive(Clone, Copy, Debug)]
+pub(crate) struct GivenBook<'a> {
+    pub(crate) path: &'a str,
+    pub(crate) number: u64,
+}
 
 // The name in a path, after the last slash.
 fn name_in(path: &str) -> &str {
@@ -25,8 +35,8 @@ fn is_text(kind: FileKind) -> bool {
     }
 }
 
-// The number of the book whose text has this path.
-fn number_in(path: &str) -> Option<u64> {
+/// The number of the book whose text has this path.
+pub(crate) fn number_in(path: &str) -> Option<u64> {
     let file = read_file_name(name_in(path).as_bytes())?;
     if is_text(file.kind) {
         Some(file.number)
@@ -53,54 +63,89 @@ pub(crate) fn tariffs_path(alloc: Global, path: &str, number: u64) -> io::Result
     Ok(beside)
 }
 
-// The number of the book whose text has this path. Standard error says so if there is none.
-fn number_of(rt: &impl Eprint, path: &str) -> Result<u64, NotShown> {
+// The book whose text has this path. Standard error says so if the name is not that of a text.
+fn given_book<'a>(rt: &impl Eprint, path: &'a str) -> Result<GivenBook<'a>, NotShown> {
     match number_in(path) {
-        Some(number) => Ok(number),
+        Some(number) => Ok(GivenBook { path, number }),
         None => Err(say(rt, path, BookFault::Name)),
     }
 }
 
-// Adds the numbers of the books of these paths.
-fn add_numbers(rt: &impl Eprint, paths: &[&str], numbers: &mut Vec<u64>) -> Result<(), NotShown> {
+// Adds the books of these paths.
+fn add_given<'a>(
+    rt: &impl Eprint,
+    paths: &[&'a str],
+    books: &mut Vec<GivenBook<'a>>,
+) -> Result<(), NotShown> {
     for path in paths {
-        let number = number_of(rt, path)?;
-        if numbers.push(number).is_err() {
+        let book = given_book(rt, *path)?;
+        if books.push(book).is_err() {
             return Err(NotShown::NoMemory);
         }
     }
     Ok(())
 }
 
-// Prints why the books of these paths are not those of the rows.
-fn say_given(rt: &impl Eprint, rows_path: &str, paths: &[&str], fault: GivenFault) -> NotShown {
+/// The books of these paths. If the name of one is not that of a text, standard error says so.
+pub(crate) fn given_books<'a>(
+    rt: &impl Eprint,
+    alloc: Global,
+    paths: &[&'a str],
+) -> Result<Vec<GivenBook<'a>>, NotShown> {
+    let mut books = Vec::new(alloc);
+    match add_given(rt, paths, &mut books) {
+        Ok(()) => Ok(books),
+        Err(reason) => {
+            drop(books);
+            Err(reason)
+        }
+    }
+}
+
+// Prints why these books are not those of the rows.
+fn say_given(
+    rt: &impl Eprint,
+    rows_path: &str,
+    books: &[GivenBook<'_>],
+    fault: GivenFault,
+) -> NotShown {
     match fault {
-        GivenFault::Wrong { index, wrong } => match paths.get(index) {
-            Some(path) => say(rt, path, BookFault::Given(wrong)),
+        GivenFault::Wrong { index, wrong } => match books.get(index) {
+            Some(book) => say(rt, book.path, BookFault::Given(wrong)),
             None => NotShown::Book,
         },
         GivenFault::Missing { book } => say(rt, rows_path, BookFault::Missing(book)),
     }
 }
 
-/// The numbers of the books of these paths, which are those of the rows. Otherwise standard error has the first fault.
-pub(crate) fn checked_numbers(
+// The numbers of books.
+fn numbers_of(alloc: Global, books: &[GivenBook<'_>]) -> Result<Vec<u64>, NotShown>
+    ensures { IfOk result (λ numbers. numbers.items ≡ map number_of books.now) }
+{
+    let mut numbers = Vec::new(alloc);
+    for book in books {
+        if numbers.push(book.number).is_err() {
+            return Err(NotShown::NoMemory);
+        }
+    }
+    Ok(numbers)
+}
+
+/// Checks that these books are those of the rows. Otherwise standard error has the first fault.
+pub(crate) fn check_given(
     rt: &impl Eprint,
     alloc: Global,
     rows_path: &str,
     rows: &[Row],
-    paths: &[&str],
-) -> Result<Vec<u64>, NotShown> {
-    let mut numbers = Vec::new(alloc);
-    if let Err(reason) = add_numbers(rt, paths, &mut numbers) {
-        drop(numbers);
-        return Err(reason);
-    }
-    match first_fault(rows, numbers.as_slice()) {
-        None => Ok(numbers),
-        Some(fault) => {
-            drop(numbers);
-            Err(say_given(rt, rows_path, paths, fault))
-        }
+    books: &[GivenBook<'_>],
+) -> Result<(), NotShown>
+    ensures { OnOk result (IsFirstFault rows.now (map number_of books.now) None) }
+{
+    let numbers = numbers_of(alloc, books)?;
+    let fault = first_fault(rows, numbers.as_slice());
+    drop(numbers);
+    match fault {
+        None => Ok(()),
+        Some(fault) => Err(say_given(rt, rows_path, books, fault)),
     }
 }

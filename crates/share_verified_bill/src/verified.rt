@@ -1,14 +1,18 @@
 //! The bill of books that are checked against their rows.
+ghost use Rattle.std.specs.Prelude.{◌≡◌, ℕ, List, IsSomeAnd, OnOk, length, slice_get};
+ghost use Rattle.share_billing.specs.Printed.{PrintsAll};
+ghost use Rattle.share_catalog.specs.declared.row.Row.{Row};
+ghost use Rattle.share_verified_bill.specs.Verified.{AreGiven, AreRows, IsVerified};
+ghost use Rattle.share_verified_bill.specs.declared.given_files.GivenBook.{GivenBook};
 
-use crate::books::{GivenBook, add_book};
-use crate::given_files::checked_numbers;
+use crate::books::VerifiedBooks;
+use crate::given_files::{GivenBook, check_given, given_books};
 use crate::rows_file::rows_in;
-use share_bill::TenantTotal;
-use share_billing::{Form, NotShown, shown};
+use share_billing::{Extent, Form, NotShown, SystemFiles, TextFiles, print_books};
 use share_catalog::Row;
-use share_model::{PatientWriter, PlainWriter, put};
-use std::alloc::{AllocError, Global};
-use std::fs::{File, Files};
+use share_model::{PatientWriter, PlainWriter, TellingWriter};
+use std::alloc::Global;
+use std::fs::Files;
 use std::io;
 use std::io::{Eprint, Print};
 
@@ -19,77 +23,81 @@ pub struct VerifiedBilling<'a, 'b> {
     pub rows: &'a str,
     /// The files of the texts.
     pub paths: &'b [&'a str],
+    /// The part of each text that is billed. Beginnings are not compared with the rows, which have only their tariffs.
+    pub extent: Extent,
     pub form: Form,
 }
 
-// Adds the bill of each book to the totals, and returns whether all of them have one and are as their rows say.
-fn add_books<R: Files<File = File> + Eprint>(
+// Checks that the books are those of the rows, unless beginnings are billed.
+fn check_books<R: Eprint>(
     rt: &R,
     alloc: Global,
     rows: &[Row],
-    numbers: &[u64],
-    paths: &[&str],
-    totals: &mut Vec<TenantTotal>,
-) -> Result<bool, AllocError> {
-    let mut is_whole = true;
-    for (path, number) in paths.iter().zip(numbers) {
-        let book = GivenBook {
-            path,
-            number: *number,
-        };
-        if !add_book(rt, alloc, rows, book, totals)? {
-            is_whole = false;
-        }
+    books: &[GivenBook<'_>],
+    billing: &VerifiedBilling<'_, '_>,
+) -> Result<(), NotShown>
+    ensures { OnOk result (AreGiven billing.now.extent rows.now books.now) }
+{
+    match billing.extent {
+        Extent::Whole => check_given(rt, alloc, billing.rows, rows, books),
+        Extent::Beginning => Ok(()),
     }
-    Ok(is_whole)
 }
 
-// Prints the bill of that many books.
-fn print_totals(
-    rt: &impl Print,
+// Writes the bill of these books beside the rows.
+fn write_beside<R: Eprint, F: TextFiles, V: TellingWriter>(
+    rt: &R,
     alloc: Global,
-    form: Form,
-    books: u64,
-    totals: &[TenantTotal],
-) -> Result<(), NotShown> {
-    let Ok(text) = shown(alloc, form, books, totals) else {
-        return Err(NotShown::NoMemory);
+    files: &F,
+    rows: &[Row],
+    billing: &VerifiedBilling<'_, '_>,
+    output: &mut V,
+) -> Result<(), NotShown>
+    ensures { OnOk result ((books : List GivenBook) × AreGiven billing.now.extent rows.now books
+        × PrintsAll (λ index bill. IsSomeAnd (slice_get books index) (λ book.
+        IsVerified (F.opens files.now) F.Text.remaining billing.now.extent rows.now book.path.now book.number bill))
+        (length books) billing.now.form V.told V.answers output.old output.new) }
+{
+    let given = given_books(rt, alloc, billing.paths)?;
+    let books = given.as_slice();
+    check_books(rt, alloc, rows, books, billing)?;
+    let biller = VerifiedBooks {
+        rt,
+        files,
+        rows,
+        books,
+        extent: billing.extent,
     };
+    print_books(&biller, alloc, billing.form, output)
+}
+
+/// Writes the bill of these books, each under its own tariffs, summed by tenant. If the whole texts are billed, each
+/// book from the first to the last row has to be given once, and has to be as its row says. Those without a run are
+/// left out. Otherwise nothing is written, and standard error says why.
+pub fn write_verified_bill<R: Eprint, F: TextFiles, V: TellingWriter>(
+    rt: &R,
+    alloc: Global,
+    files: &F,
+    billing: &VerifiedBilling<'_, '_>,
+    output: &mut V,
+) -> Result<(), NotShown>
+    ensures { OnOk result ((rows : List Row) × (books : List GivenBook)
+        × AreRows (F.opens files.now billing.now.rows.now) F.Text.remaining rows
+        × AreGiven billing.now.extent rows books
+        × PrintsAll (λ index bill. IsSomeAnd (slice_get books index) (λ book.
+        IsVerified (F.opens files.now) F.Text.remaining billing.now.extent rows book.path.now book.number bill))
+        (length books) billing.now.form V.told V.answers output.old output.new) }
+{
+    let rows = rows_in(rt, files, alloc, billing)?;
+    write_beside(rt, alloc, files, rows.as_slice(), billing, output)
+}
+
+/// Prints the bill of these books as `write_verified_bill` writes it.
+pub fn print_verified_bill<R: Files + Print + Eprint>(
+    rt: &R,
+    alloc: Global,
+    billing: &VerifiedBilling<'_, '_>,
+) -> Result<(), NotShown> {
     let mut output = PatientWriter(PlainWriter(io::writer(rt)));
-    match put(&mut output, text.as_slice()) {
-        Ok(()) => Ok(()),
-        Err(_) => Err(NotShown::Output),
-    }
-}
-
-// Prints the bill of the books of these numbers, beside the rows.
-fn print_beside<R: Files<File = File> + Print + Eprint>(
-    rt: &R,
-    alloc: Global,
-    rows: &[Row],
-    numbers: &[u64],
-    billing: &VerifiedBilling<'_, '_>,
-) -> Result<(), NotShown> {
-    let mut totals = Vec::new(alloc);
-    let Ok(is_whole) = add_books(rt, alloc, rows, numbers, billing.paths, &mut totals) else {
-        return Err(NotShown::NoMemory);
-    };
-    if !is_whole {
-        return Err(NotShown::Book);
-    }
-    let books = billing.paths.len() as u64;
-    print_totals(rt, alloc, billing.form, books, totals.as_slice())
-}
-
-/// Prints the bill of these books, each under its own tariffs, summed by tenant. Each book from the first to the last
-/// row has to be given once, and has to be as its row says. Those whose text is not a run are left out. Otherwise
-/// nothing is printed, and standard error says why.
-pub fn print_verified_bill<R: Files<File = File> + Print + Eprint>(
-    rt: &R,
-    alloc: Global,
-    billing: &VerifiedBilling<'_, '_>,
-) -> Result<(), NotShown> {
-    let rows = rows_in(rt, alloc, billing.rows)?;
-    let numbers = checked_numbers(rt, alloc, billing.rows, rows.as_slice(), billing.paths)?;
-    print_beside(rt, alloc, rows.as_slice(), numbers.as_slice(), billing)
+    write_verified_bill(rt, alloc, &SystemFiles(rt), billing, &mut output)
 }

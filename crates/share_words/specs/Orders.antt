@@ -4,7 +4,7 @@ use Rattle.clap.specs.Values.{kind_of}
 use Rattle.clap.specs.declared.error.kind.ErrorKind.TheVariants.{OutOfMemory}
 use Rattle.share_core.specs.Life.{life_refusal}
 use Rattle.share_words.specs.declared.asked.Asked.{Asked}
-use Rattle.share_words.specs.declared.asked.Asked.TheVariants.{Run, Serve, Bill, Text}
+use Rattle.share_words.specs.declared.asked.Asked.TheVariants.{Run, Serve, Bill, Gateway, Ask, Text}
 
 -- a link of this life can be served, with these numbers of ingress and of control connections
 abbrev pub CanBeServed : ℕ → ℕ → ℕ → Type 0
@@ -17,4 +17,6 @@ abbrev pub CanBeObeyed : Asked → Type 0
 CanBeObeyed (Run orders) = life_refusal orders.life ≡ None
 CanBeObeyed (Serve orders) = CanBeServed orders.life orders.workers orders.clerks
 CanBeObeyed (Bill orders) = Unit {0}
+CanBeObeyed Gateway = Unit {0}
+CanBeObeyed Ask = Unit {0}
 CanBeObeyed (Text text) = kind_of text ≢ OutOfMemory

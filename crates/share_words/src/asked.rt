@@ -55,6 +55,10 @@ pub enum Asked<'a> {
     Serve(ServeOrders<'a>),
     /// To bill books.
     Bill(BillOrders<'a>),
+    /// To run a gateway. Its words are read by another program.
+    Gateway,
+    /// To ask a gateway. Its words are read by another program.
+    Ask,
     /// To show a text: help, the version, or what is wrong with the words.
     Text(clap::Error),
 }

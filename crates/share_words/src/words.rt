@@ -55,6 +55,10 @@ const UNTIL_EOF_HELP: &str = "close all connections at the end of standard input
 
 const VERBOSE_HELP: &str = "print what happens on standard error";
 
+const GATEWAY_HELP: &str = "shares an uplink among tenants, from a file of settings";
+
+const ASK_HELP: &str = "sends control lines to a gateway, and prints the replies";
+
 // A word that is given or not.
 fn flag<'a>(alloc: Global, name: &'a str, help: &'a str) -> Arg<'a> {
     Arg::new(alloc, name)
@@ -141,7 +145,8 @@ fn bare_command_line<'a>(alloc: Global) -> Result<Command<'a>, AllocError> {
     Ok(
         command
             .version(VERSION)
-            .about("a link that shares its bandwidth among packet flows by tickets")
+            .propagate_version(true)
+            .about("shares the bandwidth of a link by tickets")
             .after_long_help(help::SCRIPTS)
             .subcommand_required(true),
     )
@@ -155,11 +160,19 @@ fn with_subcommand<'a>(
     command?.subcommand(subcommand?)
 }
 
+// A word whose own words another program reads. It is here so that help lists it.
+fn listed<'a>(alloc: Global, name: &'a str, about: &'a str) -> Result<Command<'a>, AllocError> {
+    Ok(Command::new(alloc, name).about(about))
+}
+
 // The command line of the program.
 fn command_line<'a>(alloc: Global) -> Result<Command<'a>, AllocError> {
-    let command = with_subcommand(bare_command_line(alloc), run_command(alloc));
-    let command = with_subcommand(command, serve_command(alloc));
-    with_subcommand(command, bill_command(alloc))
+    let gateway = listed(alloc, "gateway", GATEWAY_HELP);
+    let command = with_subcommand(bare_command_line(alloc), gateway);
+    let command = with_subcommand(command, listed(alloc, "ask", ASK_HELP));
+    let command = with_subcommand(command, bill_command(alloc));
+    let command = with_subcommand(command, run_command(alloc));
+    with_subcommand(command, serve_command(alloc))
 }
 
 // The request in the words of `run`.
@@ -231,7 +244,7 @@ fn out_of_range(asked: &Asked<'_>) -> Option<&'static str>
     match asked {
         Asked::Run(orders) => wrong_run(orders),
         Asked::Serve(orders) => wrong_service(orders),
-        Asked::Bill(_) | Asked::Text(_) => None,
+        Asked::Bill(_) | Asked::Gateway | Asked::Ask | Asked::Text(_) => None,
     }
 }
 
@@ -242,6 +255,8 @@ fn asked_by<'a>(alloc: Global, matches: &ArgMatches<'a>) -> Result<Asked<'a>, Al
     match matches.subcommand() {
         Some(("serve", serve)) => Ok(Asked::Serve(serve_orders(serve))),
         Some(("bill", bill)) => Ok(Asked::Bill(bill_orders(alloc, bill)?)),
+        Some(("gateway", _)) => Ok(Asked::Gateway),
+        Some(("ask", _)) => Ok(Asked::Ask),
         Some((_, run)) => Ok(Asked::Run(run_orders(run))),
         None => Ok(Asked::Run(Orders {
             life: LIFE,
@@ -346,6 +361,7 @@ fn fault_in(asked: Asked<'_>) -> Option<clap::Error>
         Asked::Bill(orders) => drop(orders),
         Asked::Run(_orders) => {}
         Asked::Serve(_orders) => {}
+        Asked::Gateway | Asked::Ask => {}
     }
     None
 }

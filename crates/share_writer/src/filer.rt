@@ -5,7 +5,7 @@ use crate::book_close::{BookClose, end_of};
 use crate::jobs::FilerJob;
 use crossbeam_channel::Receiver;
 use share_catalog::Digest;
-use share_disk::{Folder, OpenText};
+use share_disk::{BookEnd, Folder, OpenText};
 use std::alloc::Global;
 use std::fs::{File, Files};
 use std::io;
@@ -18,20 +18,23 @@ pub(crate) struct Filer<'s> {
     pub(crate) folder: &'s Folder,
     pub(crate) attempts: Attempts<'s>,
     pub(crate) jobs: Receiver<FilerJob>,
+    // Whether a sync of the text of the book that is to be closed next has failed.
+    pub(crate) is_doubted: bool,
 }
 
 impl<'s> Filer<'s> {
     /// Does jobs until it is to stop.
     pub(crate) fn run<R: Files<File = File> + Wait>(self, rt: &R) {
+        let mut filer = self;
         for _ in rt.forever() {
-            if !self.take(rt) {
+            if !filer.take(rt) {
                 break;
             }
         }
     }
 
     // Does the next job. Returns false if it is to stop.
-    fn take<R: Files<File = File> + Wait>(&self, rt: &R) -> bool {
+    fn take<R: Files<File = File> + Wait>(&mut self, rt: &R) -> bool {
         if self.attempts.is_abandoned() {
             return false;
         }
@@ -42,10 +45,10 @@ impl<'s> Filer<'s> {
     }
 
     // Does a job. Returns false if it is to stop.
-    fn work<R: Files<File = File> + Wait>(&self, rt: &R, job: FilerJob) -> bool {
+    fn work<R: Files<File = File> + Wait>(&mut self, rt: &R, job: FilerJob) -> bool {
         match job {
             FilerJob::Keep { number } => self.keep(rt, number),
-            FilerJob::Sync(file) => self.sync(rt, file),
+            FilerJob::Sync { number, file } => self.sync(rt, number, file),
             FilerJob::Close { text, close } => self.close(rt, text, close),
             FilerJob::Stop => false,
         }
@@ -58,21 +61,44 @@ impl<'s> Filer<'s> {
             .is_some()
     }
 
-    fn sync<R: Wait>(&self, rt: &R, file: File) -> bool {
-        let synced = self.attempts.until_done(rt, || file.sync_data());
+    // Makes a text durable. If its sync fails, the text is written again before the next one.
+    fn sync<R: Files<File = File> + Wait>(&mut self, rt: &R, number: u64, file: File) -> bool {
+        let synced = match file.sync_data() {
+            Ok(()) => {
+                self.attempts.succeeded();
+                true
+            }
+            Err(fault) => {
+                self.is_doubted = true;
+                self.attempts.failed(rt, &fault);
+                self.sync_again(rt, number)
+            }
+        };
         self.attempts.shared.end_sync();
-        synced.is_some()
+        synced
+    }
+
+    // Writes a text again, and makes it durable.
+    fn sync_again<R: Files<File = File> + Wait>(&self, rt: &R, number: u64) -> bool {
+        self.attempts
+            .until_done(rt, || self.folder.sync_again(rt, self.alloc, number))
+            .is_some()
     }
 
     fn close<R: Files<File = File> + Wait>(
-        &self,
+        &mut self,
         rt: &R,
         text: OpenText,
         close: BookClose,
     ) -> bool {
+        let mut text = text;
+        if self.is_doubted {
+            text.doubt();
+            self.is_doubted = false;
+        }
         let digest = self.attempts.until_done(rt, || digest_of(&text));
         match digest {
-            Some(digest) => self.close_with(rt, &text, digest, close),
+            Some(digest) => self.close_with(rt, &mut text, digest, close),
             None => false,
         }
     }
@@ -81,20 +107,39 @@ impl<'s> Filer<'s> {
     fn close_with<R: Files<File = File> + Wait>(
         &self,
         rt: &R,
-        text: &OpenText,
+        text: &mut OpenText,
         digest: Digest,
         close: BookClose,
     ) -> bool {
         let end = end_of(text.number(), digest, close);
-        let closed = self
-            .attempts
-            .until_done(rt, || self.folder.close(rt, self.alloc, text, &end));
-        if closed.is_none() {
+        if !self.close_files(rt, text, &end) {
             return false;
         }
         self.attempts.shared.add_closed();
         self.attempts.wake();
         true
+    }
+
+    // Makes the steps of a close until they are made. Returns false if the disk was abandoned before.
+    fn close_files<R: Files<File = File> + Wait>(
+        &self,
+        rt: &R,
+        text: &mut OpenText,
+        end: &BookEnd,
+    ) -> bool {
+        for _ in rt.forever() {
+            if self.attempts.is_abandoned() {
+                return false;
+            }
+            match self.folder.close(rt, self.alloc, text, end) {
+                Ok(()) => {
+                    self.attempts.succeeded();
+                    return true;
+                }
+                Err(fault) => self.attempts.failed(rt, &fault),
+            }
+        }
+        unreachable!()
     }
 }
 

@@ -33,8 +33,8 @@ pub(crate) enum WriterJob {
 pub(crate) enum FilerJob {
     /// To make the names and the tariffs of a book durable that was begun.
     Keep { number: u64 },
-    /// To make what was written to a file durable.
-    Sync(File),
+    /// To make what was written to the file of this book's text durable.
+    Sync { number: u64, file: File },
     /// To close a book.
     Close { text: OpenText, close: BookClose },
     /// To stop.

@@ -1,6 +1,6 @@
 //! The side of the loop.
-ghost use Rattle.std.specs.Prelude.{◌≡◌, ◌≤◌, ◌<◌, ◌↔◌, ◌-◌, [], false, IsTrue, IfSome, MatchBool};
-ghost use Rattle.share_writer.specs.Queue.{new_queue, with_bytes, with_close, with_last, with_sync};
+ghost use Rattle.std.specs.Prelude.{◌≡◌, ◌≤◌, ◌<◌, ◌↔◌, ◌-◌, [], true, IsTrue, IfSome, MatchBool};
+ghost use Rattle.share_writer.specs.Queue.{can_begin, new_queue, with_bytes, with_close, with_last, with_sync};
 
 use crate::book_close::BookClose;
 use crate::jobs::{EmptyPage, FilerJob, WriterJob};
@@ -33,6 +33,8 @@ pub struct DiskQueue {
     given: u64,
     asked: u64,
     ended: u64,
+    // The number of books closed when that was last asked.
+    seen: u64,
     is_over: bool,
 }
 
@@ -41,7 +43,8 @@ impl Model for DiskQueue {
 
     ghost Value = { QueueView };
 
-    ghost view = { λ q. record { given = q.given; asked = q.asked; ended = q.ended; is_over = q.is_over } };
+    ghost view = { λ q.
+        record { given = q.given; asked = q.asked; ended = q.ended; seen = q.seen; is_over = q.is_over } };
 }
 
 // This is written out so that no crate above proves how each end of a channel is dropped.
@@ -57,6 +60,7 @@ impl Drop for DiskQueue {
             given: _,
             asked: _,
             ended: _,
+            seen: _,
             is_over: _,
         } = self;
         drop(shared);
@@ -87,6 +91,7 @@ impl DiskQueue {
             given: 0,
             asked: 0,
             ended: 0,
+            seen: 0,
             is_over: false,
         }
     }
@@ -162,25 +167,20 @@ impl DiskQueue {
     }
 
     /// Whether the next book can begin: few books before it are still to be closed.
-    pub fn can_begin(&self) -> bool {
-        !self.is_over && self.closing() < MOST_CLOSES
+    pub fn can_begin(&mut self) -> bool
+        ensures begins { result ≡ can_begin self.new }
+        ensures rest { self.new ≡ record self.old { seen = self.new.seen } }
+    {
+        self.seen = self.closed();
+        !self.is_over && self.ended - self.seen < MOST_CLOSES
     }
 
-    /// Has the next book begun after all bytes that were given before, and the open one closed. Returns false, and does
-    /// nothing, if the next book cannot begin.
-    pub fn begin_next<R: Wait>(
-        &mut self,
-        rt: &R,
-        number: u64,
-        tariffs: Tariffs,
-        close: BookClose,
-    ) -> bool
-        ensures { MatchBool result ((self.new ≡ with_close self.old) × (self.old.is_over ≡ false))
-            (self.new ≡ self.old) }
+    /// Has the next book begun after all bytes that were given before, and the open one closed. `can_begin` has
+    /// returned true before.
+    pub fn begin_next<R: Wait>(&mut self, rt: &R, number: u64, tariffs: Tariffs, close: BookClose)
+        requires { can_begin self.old ≡ true }
+        ensures { self.new ≡ with_close self.old }
     {
-        if self.is_over || self.closing() >= MOST_CLOSES {
-            return false;
-        }
         self.ended = self.ended.saturating_add(1);
         let job = WriterJob::Next {
             number,
@@ -188,7 +188,6 @@ impl DiskQueue {
             close,
         };
         let _ = self.writer.send(rt, job);
-        true
     }
 
     /// Has the last book closed after all bytes that were given before. Nothing is written from then on.

@@ -124,6 +124,7 @@ where
             waker,
         },
         jobs: filer_jobs,
+        is_doubted: false,
     };
     run_beside(rt, writer, filer, queue, stop, work)
 }

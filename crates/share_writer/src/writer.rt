@@ -6,7 +6,7 @@ use crate::attempts::Attempts;
 use crate::book_close::BookClose;
 use crate::jobs::{EmptyPage, FilerJob, WriterJob};
 use crossbeam_channel::{Receiver, Sender};
-use share_catalog::Tariffs;
+use share_catalog::{Beginning, Tariffs};
 use share_disk::{Folder, OpenText};
 use share_transit::Page;
 use std::alloc::Global;
@@ -59,7 +59,7 @@ impl<'s> Writer<'s> {
                 number,
                 tariffs,
                 close,
-            } => return self.begin(rt, number, &tariffs, close),
+            } => return self.begin(rt, number, tariffs, close),
             WriterJob::Last { close } => self.close(rt, close),
             WriterJob::Sync => return self.sync(rt),
             WriterJob::Stop => return false,
@@ -78,18 +78,23 @@ impl<'s> Writer<'s> {
         is_whole
     }
 
-    // Begins a book, and has the open one closed. Its files become durable beside all other work.
+    // Begins a book in the second in which the open one is closed, and has that one closed. Its files become durable
+    // beside all other work.
     fn begin<R: Files<File = File> + Wait>(
         &mut self,
         rt: &R,
         number: u64,
-        tariffs: &Tariffs,
+        tariffs: Tariffs,
         close: BookClose,
     ) -> bool {
         let (alloc, folder) = (self.alloc, self.folder);
+        let beginning = Beginning {
+            tariffs,
+            opened: Some(close.closed),
+        };
         let begun = self
             .attempts
-            .until_done(rt, || folder.begin_soon(rt, alloc, number, tariffs));
+            .until_done(rt, || folder.begin_soon(rt, alloc, number, &beginning));
         let Some(text) = begun else {
             return false;
         };
@@ -107,18 +112,40 @@ impl<'s> Writer<'s> {
     }
 
     // Has the open book made durable by the filer. If its file cannot have a second handle, it is done here.
-    fn sync<R: Wait>(&mut self, rt: &R) -> bool {
+    fn sync<R: Files<File = File> + Wait>(&mut self, rt: &R) -> bool {
         let Some(text) = &self.text else {
             self.attempts.shared.end_sync();
             return true;
         };
+        let number = text.number();
         if let Ok(file) = text.second_handle() {
-            let _ = self.filer.send(rt, FilerJob::Sync(file));
+            let _ = self.filer.send(rt, FilerJob::Sync { number, file });
             return true;
         }
-        let synced = self.attempts.until_done(rt, || text.sync());
+        let synced = self.sync_here(rt, number);
         self.attempts.shared.end_sync();
-        synced.is_some()
+        synced
+    }
+
+    // Makes the open book durable. If its sync fails, it is written again before the next one.
+    fn sync_here<R: Files<File = File> + Wait>(&mut self, rt: &R, number: u64) -> bool {
+        let Some(text) = &mut self.text else {
+            return true;
+        };
+        match text.sync() {
+            Ok(()) => {
+                self.attempts.succeeded();
+                true
+            }
+            Err(fault) => {
+                text.doubt();
+                self.attempts.failed(rt, &fault);
+                let (alloc, folder) = (self.alloc, self.folder);
+                self.attempts
+                    .until_done(rt, || folder.sync_again(rt, alloc, number))
+                    .is_some()
+            }
+        }
     }
 }
 

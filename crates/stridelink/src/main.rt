@@ -16,6 +16,9 @@ use std::fs::File;
 use std::io::{BufReader, IsTerminal, Printer, StdinLock};
 use std::process::ExitCode;
 
+/// The program that runs gateways, and asks them.
+const GATEWAYS: &str = "stridelink-gateway";
+
 /// The text that is printed if the lines of a script come from a terminal.
 const AT_TERMINAL: &str =
     "stridelink: reads the lines of a script; 'stridelink run --help' lists them";
@@ -94,6 +97,8 @@ fn main(rt: HostRuntime) -> ExitCode {
         Ok(Asked::Run(orders)) => run_given(&rt, orders),
         Ok(Asked::Bill(orders)) => bill_given(&rt, rt.alloc(), orders),
         Ok(Asked::Serve(_)) => Ok(not_here(&rt, "serve", "stridelink-link")),
+        Ok(Asked::Gateway) => Ok(not_here(&rt, "gateway", GATEWAYS)),
+        Ok(Asked::Ask) => Ok(not_here(&rt, "ask", GATEWAYS)),
         Err(_) => Err(ScriptFault::NoMemory),
     };
     match obeyed {

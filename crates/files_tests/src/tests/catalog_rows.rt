@@ -2,8 +2,8 @@
 
 use crate::tests::assertions::{holds, same};
 use share_catalog::{
-    Closing, Column, Digest, Mismatch, Row, TextKind, Time, compare, first_missing, header_line,
-    read_row, row_line, tariffs_line,
+    Beginning, Closing, Column, Digest, Mismatch, Row, TextKind, Time, beginning_lines, compare,
+    first_missing, header_line, read_beginning, read_row, row_line,
 };
 use std::alloc::{AllocError, Global};
 use std::process::Abort;
@@ -120,6 +120,40 @@ fn row_of(rt: &impl Abort, text: &str) -> Row {
     }
 }
 
+// The file of the tariffs of a row, with its opening time and without it.
+fn are_beginnings(rt: &impl Abort, row: Row) {
+    let opened = row.opened;
+    let mut beginning = Beginning {
+        tariffs: row.tariffs,
+        opened: None,
+    };
+    let old = beginning_lines(&beginning);
+    holds(
+        rt,
+        "no opening time",
+        old.as_bytes() == b"48/16/2 1/0/1\n".as_slice(),
+    );
+    beginning.opened = Some(opened);
+    let lines = beginning_lines(&beginning);
+    holds(
+        rt,
+        "an opening time",
+        lines.as_bytes() == b"48/16/2 1/0/1\n2026-01-31T22:59:59Z\n".as_slice(),
+    );
+    for (text, is) in [
+        ("48/16/2 1/0/1\n", true),
+        ("48/16/2 1/0/1\n2026-01-31T22:59:59Z\n", true),
+        ("48/16/2 1/0/1", false),
+        ("48/16/2 1/0/1\n2026-01-31T22:59:59Z", false),
+        ("48/16/2 1/0/1\n\n", false),
+        ("48/16/2 1/0/1\n2026-01-31T22:59:59Z\n\n", false),
+        ("2026-01-31T22:59:59Z\n48/16/2\n", false),
+        ("", false),
+    ] {
+        same(rt, text, read_beginning(text.as_bytes()).is_some(), is);
+    }
+}
+
 fn are_fields(rt: &impl Abort) {
     let row = row_of(rt, HOUR);
     same(rt, "book", row.book, 1);
@@ -156,11 +190,7 @@ fn are_fields(rt: &impl Abort) {
     }
     same(rt, "events", row.totals.events, 12);
     same(rt, "amount", row.totals.amount, 90);
-    holds(
-        rt,
-        "tariffs' line",
-        tariffs_line(&row.tariffs).as_bytes() == b"48/16/2 1/0/1\n".as_slice(),
-    );
+    are_beginnings(rt, row);
 }
 
 fn are_compared(rt: &impl Abort) {

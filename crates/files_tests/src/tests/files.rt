@@ -31,7 +31,9 @@ fn has_links(rt: &impl Abort, settings: &Settings) {
     let uplink = settings.uplink.expect(rt, "an uplink");
     holds(rt, "connect", is_peer(uplink.to, "192.0.2.7:7003"));
     same(rt, "rate", uplink.rate, Some(2_500_000));
-    same(rt, "buffer", uplink.buffer, 262144);
+    same(rt, "buffer", uplink.buffer, Some(262144));
+    same(rt, "bytes", uplink.send_buffer(), 262144);
+    same(rt, "timeout", uplink.timeout, 15);
     let downlink = settings.downlink.expect(rt, "a downlink");
     holds(rt, "listen", is_peer(downlink.listen, "192.0.2.1:7003"));
     holds(rt, "from", downlink.from.is_none());
@@ -140,6 +142,7 @@ fn has_default_sections(rt: &impl Abort, settings: &Settings) {
     same(rt, "events", settings.books.events, 16_777_216);
     same(rt, "period", settings.books.period, None);
     same(rt, "mode", settings.control.mode, 0o600);
+    same(rt, "group", settings.control.group, None);
     same(rt, "tariffs", settings.tariffs.len(), 4);
 }
 
@@ -150,16 +153,29 @@ fn what_a_file_leaves_out_has_its_default(rt: HostRuntime) {
     let tenant = settings.plan.tenants().get(1).expect(&rt, "a tenant");
     has_numbers(&rt, tenant, 2);
     same(&rt, "grants", tenant.grants.len(), 0);
+    same(
+        &rt,
+        "flows",
+        settings.flows.as_slice() == [Some(1), Some(7)].as_slice(),
+        true,
+    );
     let ports = settings.ports.get(1).expect(&rt, "ports of a tenant");
     same(&rt, "ports", ports.ports.len(), 0);
     same(&rt, "mode of ports", ports.mode, 0o600);
+    same(&rt, "group of ports", ports.group, None);
 }
 
 #[test]
 fn other_values_are_read(rt: HostRuntime) {
     let settings = read_settings(rt.alloc(), FILE).expect(&rt, "a file");
     let tenant = settings.plan.tenants().get(1).expect(&rt, "a tenant");
-    same(&rt, "flow", tenant.flow, 3);
+    same(&rt, "flow before it is numbered", tenant.flow, 2);
+    same(
+        &rt,
+        "flows",
+        settings.flows.as_slice() == [Some(1), Some(3)].as_slice(),
+        true,
+    );
     let ports = settings.ports.first().expect(&rt, "ports of a tenant");
     same(&rt, "mode of ports", ports.mode, 0o640);
 }

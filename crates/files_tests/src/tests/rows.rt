@@ -27,7 +27,7 @@ tickets = [ { amount = 300 } ]              # of base
 
 [[tenant]]
 name = "acme"
-flow = 1                         # (its place)
+flow = 1                         # needed with a [downlink]
 port = [ "127.0.0.1:7101", "unix:/run/stridelink/acme", "udp:127.0.0.1:7201", "fd:3" ]
 mode = "0600"                    # of its Unix sockets (0600)
 packets = 256                    # the buffer limit (256)
@@ -54,7 +54,9 @@ listen = "192.0.2.1:7003"
 
 [[tenant]]
 name = "acme"
+flow = 1
 
 [[tenant]]
 name = "bond"
+flow = 7
 "#;

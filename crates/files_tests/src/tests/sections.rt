@@ -4,7 +4,7 @@ use super::assertions::same;
 use super::changes::{FAR, FILE};
 use super::settings::changed_settings;
 use share_config::read_settings;
-use share_reload::{Roster, changed_section, reload_fault};
+use share_reload::{NeedsRestart, changed_section};
 use std::alloc::Global;
 use std::process::Abort;
 
@@ -21,7 +21,7 @@ const DOWNLINK: &str = "[downlink] needs a restart";
 
 const WEB: &str = "[web] needs a restart";
 
-static ROWS: [Row; 29] = [
+static ROWS: [Row; 34] = [
     ("", "", "", ""),
     ("192.0.2.7:7003", "192.0.2.8:7003", "[uplink]", UPLINK),
     ("192.0.2.7:7003", "192.0.2.7:7004", "[uplink]", UPLINK),
@@ -30,7 +30,19 @@ static ROWS: [Row; 29] = [
     ("20 Mbit/s", "21 Mbit/s", "[uplink]", UPLINK),
     ("20 Mbit/s", "2500 kB/s", "", ""),
     ("rate = \"20 Mbit/s\"", "", "[uplink]", UPLINK),
-    ("buffer = 262144", "", "", ""),
+    ("buffer = 262144", "", "[uplink]", UPLINK),
+    (
+        "buffer = 262144",
+        "buffer = 262144\ntimeout = \"15 s\"",
+        "",
+        "",
+    ),
+    (
+        "buffer = 262144",
+        "buffer = 262144\ntimeout = \"16 s\"",
+        "[uplink]",
+        UPLINK,
+    ),
     ("262144", "262145", "[uplink]", UPLINK),
     (
         "stridelink/uplink\"\ntext",
@@ -56,6 +68,7 @@ static ROWS: [Row; 29] = [
         CONTROL,
     ),
     ("0600", "0660", "[control]", CONTROL),
+    ("\"0600\"", "\"0600\"\ngroup = 990", "[control]", CONTROL),
     (
         "",
         "[downlink]\nlisten = \"192.0.2.1:7003\"\n",
@@ -69,8 +82,10 @@ static ROWS: [Row; 29] = [
     ("\"acme\"\nflow = 1", "\"cole\"\nflow = 2", "", ""),
     ("127.0.0.1:7101", "127.0.0.1:7103", "", ""),
     ("0640", "0600", "", ""),
-    ("\"bond\"", "\"cole\"", "", "flow 3 is bond's"),
-    ("flow = 3", "flow = 2", "", "bond is flow 3"),
+    ("\"0640\"", "\"0640\"\ngroup = 990", "", ""),
+    ("20 Mbit/s", "20000 kbit/s", "", ""),
+    ("\"bond\"", "\"cole\"", "", ""),
+    ("flow = 3", "flow = 2", "", ""),
 ];
 
 static FAR_ROWS: [Row; 10] = [
@@ -98,7 +113,6 @@ static FAR_ROWS: [Row; 10] = [
 
 fn are_compared(rt: &impl Abort, alloc: Global, file: &'static str, rows: &[Row]) {
     let old = read_settings(alloc, file).expect(rt, "a file");
-    let roster = Roster::of(alloc, &old.plan).expect(rt, "a roster");
     for row in rows {
         let new = changed_settings(rt, alloc, file, (row.0, row.1));
         let section = match changed_section(&old, &new) {
@@ -106,9 +120,12 @@ fn are_compared(rt: &impl Abort, alloc: Global, file: &'static str, rows: &[Row]
             Some(section) => format!(in alloc; "{section}").expect(rt, "memory"),
         };
         same(rt, *row, section.as_str(), row.2);
-        let fault = match reload_fault(&old, &new, &roster) {
+        let fault = match changed_section(&old, &new) {
             None => String::new(alloc),
-            Some(fault) => format!(in alloc; "{fault}").expect(rt, "memory"),
+            Some(section) => {
+                let fault = NeedsRestart(section);
+                format!(in alloc; "{fault}").expect(rt, "memory")
+            }
         };
         same(rt, *row, fault.as_str(), row.3);
     }

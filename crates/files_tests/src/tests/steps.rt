@@ -2,87 +2,77 @@
 
 use crate::tests::assertions::same;
 use share_archive::Step::{
-    AppendRow, CloseText, CutRow, MarkBad, RemovePart, RemoveReport, RemoveTariffs, RemoveText,
+    AppendRow, CloseText, CutRow, MarkBad, RemovePart, RemoveReport, RemoveText, SyncRow, SyncText,
     WriteReport,
 };
 use share_archive::{
-    BookState, BookText, RowState, Step, books_come_to_rest, killed_books_come_to_the_same,
-    next_step,
+    BookState, BookText, Durability, RowState, Step, books_come_to_rest,
+    killed_books_come_to_the_same, losses_of_power_take_no_closed_text, next_step,
 };
 
 /// An open book that is a run.
 const OPEN: BookState = BookState {
     text: BookText::Open { is_run: true },
+    bytes: Durability::Synced,
     report: false,
     part: false,
     row: RowState::Missing,
-    tariffs: true,
 };
 
-const CLOSED: BookText = BookText::Closed { is_run: true };
+/// A closed book without a report.
+const CLOSED: BookState = BookState {
+    text: BookText::Closed { is_run: true },
+    ..OPEN
+};
+
+/// A closed book with a report.
+const REPORTED: BookState = BookState {
+    report: true,
+    ..CLOSED
+};
+
+/// A book that was set aside.
+const BAD: BookState = BookState {
+    text: BookText::Bad,
+    ..OPEN
+};
+
+/// A text without a whole first line.
+const HEADLESS: BookState = BookState {
+    text: BookText::Headless,
+    bytes: Durability::Written,
+    ..OPEN
+};
+
+/// A number without a text.
+const ABSENT: BookState = BookState {
+    text: BookText::Absent,
+    ..HEADLESS
+};
+
+/// A text without tariffs.
+const UNPRICED: BookState = BookState {
+    text: BookText::Unpriced,
+    ..HEADLESS
+};
 
 /// The files of a book in its folder, and the step that is next.
-static STEPS: [(BookState, Option<Step>); 14] = [
+static STEPS: [(BookState, Option<Step>); 27] = [
     (OPEN, Some(CloseText)),
     (
         BookState {
-            text: CLOSED,
+            bytes: Durability::Written,
             ..OPEN
         },
-        Some(WriteReport),
+        Some(SyncText),
     ),
     (
         BookState {
-            text: CLOSED,
-            part: true,
+            text: BookText::Open { is_run: false },
+            bytes: Durability::Written,
             ..OPEN
         },
-        Some(RemovePart),
-    ),
-    (
-        BookState {
-            text: CLOSED,
-            report: true,
-            ..OPEN
-        },
-        Some(AppendRow),
-    ),
-    (
-        BookState {
-            text: CLOSED,
-            report: true,
-            row: RowState::Cut,
-            ..OPEN
-        },
-        Some(CutRow),
-    ),
-    (
-        BookState {
-            text: CLOSED,
-            report: true,
-            row: RowState::Whole,
-            ..OPEN
-        },
-        Some(RemoveTariffs),
-    ),
-    (
-        BookState {
-            text: CLOSED,
-            report: true,
-            row: RowState::Whole,
-            tariffs: false,
-            ..OPEN
-        },
-        None,
-    ),
-    (
-        BookState {
-            text: CLOSED,
-            row: RowState::Whole,
-            tariffs: false,
-            ..OPEN
-        },
-        Some(WriteReport),
+        Some(SyncText),
     ),
     (
         BookState {
@@ -90,6 +80,21 @@ static STEPS: [(BookState, Option<Step>); 14] = [
             ..OPEN
         },
         Some(MarkBad),
+    ),
+    (CLOSED, Some(WriteReport)),
+    (
+        BookState {
+            bytes: Durability::Written,
+            ..CLOSED
+        },
+        Some(SyncText),
+    ),
+    (
+        BookState {
+            part: true,
+            ..CLOSED
+        },
+        Some(RemovePart),
     ),
     (
         BookState {
@@ -100,38 +105,114 @@ static STEPS: [(BookState, Option<Step>); 14] = [
     ),
     (
         BookState {
-            text: BookText::Bad,
+            row: RowState::Written,
+            ..CLOSED
+        },
+        Some(WriteReport),
+    ),
+    (REPORTED, Some(AppendRow)),
+    (
+        BookState {
+            row: RowState::Cut,
+            ..REPORTED
+        },
+        Some(CutRow),
+    ),
+    (
+        BookState {
+            row: RowState::Written,
+            ..REPORTED
+        },
+        Some(SyncRow),
+    ),
+    (
+        BookState {
+            row: RowState::Synced,
+            ..REPORTED
+        },
+        None,
+    ),
+    (
+        BookState {
+            bytes: Durability::Written,
+            row: RowState::Synced,
+            ..REPORTED
+        },
+        Some(SyncText),
+    ),
+    (
+        BookState {
             report: true,
-            ..OPEN
+            ..BAD
         },
         Some(RemoveReport),
     ),
+    (BAD, Some(AppendRow)),
     (
         BookState {
-            text: BookText::Bad,
-            ..OPEN
+            row: RowState::Synced,
+            ..BAD
         },
-        Some(AppendRow),
+        None,
+    ),
+    (HEADLESS, Some(AppendRow)),
+    (
+        BookState {
+            row: RowState::Written,
+            ..HEADLESS
+        },
+        Some(SyncRow),
     ),
     (
         BookState {
-            text: BookText::Headless,
-            ..OPEN
+            row: RowState::Synced,
+            ..HEADLESS
         },
         Some(RemoveText),
     ),
+    (ABSENT, Some(AppendRow)),
     (
         BookState {
-            text: BookText::Absent,
-            ..OPEN
+            row: RowState::Written,
+            ..ABSENT
         },
-        Some(RemoveTariffs),
+        Some(SyncRow),
+    ),
+    (
+        BookState {
+            row: RowState::Synced,
+            ..ABSENT
+        },
+        None,
+    ),
+    (
+        BookState {
+            report: true,
+            ..ABSENT
+        },
+        None,
+    ),
+    (UNPRICED, None),
+    (
+        BookState {
+            row: RowState::Written,
+            ..UNPRICED
+        },
+        Some(SyncRow),
+    ),
+    (
+        BookState {
+            row: RowState::Cut,
+            ..UNPRICED
+        },
+        Some(CutRow),
     ),
 ];
 
 #[test]
 fn steps_are_named(rt: HostRuntime) {
     killed_books_come_to_the_same();
+    losses_of_power_take_no_closed_text();
     books_come_to_rest();
     for &(book, step) in &STEPS {
         same(&rt, book, next_step(book), step);

@@ -4,7 +4,7 @@ use crate::tests::assertions::{holds, same};
 use share_catalog::{Column, Digest, Mismatch, Row};
 use share_verification::{
     BookFigures, GivenFault, NotRows, WrongGiven, WrongLine, first_fault, first_mismatch, is_bad,
-    read_rows, read_tariffs, row_of,
+    read_rows, row_of,
 };
 use std::alloc::{AllocError, Global};
 use std::process::Abort;
@@ -35,7 +35,7 @@ static TEXTS: [(&str, Option<(u64, WrongLine)>); 13] = [
     ("H4bH", Some((3, WrongLine::Column(Column::Book)))),
 ];
 
-// Adds the line of a row of one digit: `r` is a period's, `b` a bad one, and `c` is no row.
+// Adds the line of a row of one digit: `r` is a period's, `b` a bad one, `n` one without a book, and `c` is no row.
 fn push_row(text: &mut Vec<u8>, book: u8, why: u8) -> Result<(), AllocError> {
     text.push(book)?;
     text.extend_from_slice(b",lengths,")?;
@@ -43,6 +43,7 @@ fn push_row(text: &mut Vec<u8>, book: u8, why: u8) -> Result<(), AllocError> {
     text.extend_from_slice(match why {
         b'r' => b",period,48/16/2,12,3,54,64,90,".as_slice(),
         b'b' => b",bad,,0,0,0,0,0,".as_slice(),
+        b'n' => b",none,,0,0,0,0,0,".as_slice(),
         _ => b",,48/16/2,12,3,54,64,90,".as_slice(),
     })?;
     text.extend_from_slice(DIGEST.as_bytes())?;
@@ -58,7 +59,7 @@ fn spelled(alloc: Global, word: &str) -> Result<Vec<u8>, AllocError> {
         match *byte {
             b'H' => text.extend_from_slice(HEADER.as_bytes())?,
             b'2' | b'3' | b'4' | b'5' | b'6' | b'9' => book = *byte,
-            b'r' | b'b' | b'c' if book != b'0' => push_row(&mut text, book, *byte)?,
+            b'r' | b'b' | b'n' | b'c' if book != b'0' => push_row(&mut text, book, *byte)?,
             other => text.push(other)?,
         }
     }
@@ -171,20 +172,28 @@ fn books_are_compared_with_rows(rt: HostRuntime) {
     holds(&rt, "row 4", row_of(rows.as_slice(), 4).is_none());
 }
 
-/// Lines of tariffs, and whether they are such.
-static LINES: [(&str, bool); 7] = [
-    ("48/16/2 1/0/1\n", true),
-    ("\n", true),
-    ("", false),
-    ("48/16/2", false),
-    ("48/16/2\n\n", false),
-    ("48/16/2 \n", false),
-    ("0/16/2\n", false),
+/// Numbers that are given beside book 3, number 4 without a book, and book 5, and the fault.
+static GIVEN_BESIDE_NONE: [(&[u64], Option<GivenFault>); 4] = [
+    (&[3, 5], None),
+    (&[5, 3, 6], None),
+    (&[5], Some(GivenFault::Missing { book: 3 })),
+    (
+        &[3, 4, 5],
+        Some(GivenFault::Wrong {
+            index: 1,
+            wrong: WrongGiven::NoBook,
+        }),
+    ),
 ];
 
 #[test]
-fn tariffs_are_read(rt: HostRuntime) {
-    for &(text, is) in &LINES {
-        same(&rt, text, read_tariffs(text.as_bytes()).is_some(), is);
+fn no_book_of_a_number_without_one_is_wanted(rt: HostRuntime) {
+    match rows_of(&rt, rt.alloc(), "H3r4n5r") {
+        Ok(rows) => {
+            for &(given, fault) in &GIVEN_BESIDE_NONE {
+                same(&rt, given, first_fault(rows.as_slice(), given), fault);
+            }
+        }
+        Err(fault) => panic!(rt; "{fault:?}"),
     }
 }

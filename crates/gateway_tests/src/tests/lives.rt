@@ -103,8 +103,9 @@ fn price_is(rt: &impl Abort, row: &Row, life: &Life) {
 
 // All packets that have room are carried over, and the others are counted.
 fn carries(rt: &impl Abort, row: &Row, life: &mut Life, remainders: &mut Remainders) {
-    holds(rt, row.name, life.carry());
-    life.begin_next(remainders);
+    if life.carry() {
+        life.begin_next(remainders);
+    }
     holds(rt, row.name, life.is_open());
     holds(rt, row.name, remainders.packets() == row.dropped);
     forget(remainders);

@@ -54,11 +54,13 @@ pub(super) fn settings(rt: &impl Abort, alloc: Global) -> Settings {
         control: Control {
             listen: Listener::Tcp(here),
             mode: 0o600,
+            group: None,
         },
         downlink: None,
         web: None,
         tariffs: rates(rt, alloc, 1),
         plan: plan(rt, alloc, 4),
         ports: Vec::new(alloc),
+        flows: Vec::new(alloc),
     }
 }

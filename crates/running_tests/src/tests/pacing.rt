@@ -7,7 +7,7 @@ use super::assertions::{holds, same};
 use super::made::name;
 use super::session::plays;
 use super::stage::{NewLink, Slot, Stage, new_link, staged};
-use share_base::{Name, Parcel};
+use share_base::{FlowNo, Name, Parcel};
 use share_ingress::Offered;
 use share_locked::{LinkBrand, LinkEnd, Stop, run_paced_link};
 use share_model::Tape;
@@ -18,6 +18,9 @@ use std::sync::Wait;
 use std::thread;
 use std::thread::{Parker, Threads};
 use std::time::Duration;
+
+/// The runs of a test, each on a new link. `.ci/yields` makes more of them.
+const RUNS: u64 = 1;
 
 /// The number of workers, the packets that each offers, and the times that a flow is held meanwhile.
 const WORKERS: usize = 3;
@@ -30,14 +33,26 @@ const PLACES: usize = 256;
 
 const LIFE: u64 = 65536;
 
-/// The flows, one for each worker. Their buffers take 1, 2 and 1024 packets. The last one is held meanwhile.
+/// The flows, one for each worker. Their buffers take 1, 2 and 1024 packets. The last one is held meanwhile. Its buffer
+/// takes all packets of its worker: a link refuses those of a flow that is held and full, and a slow host sends few
+/// packets between two holds.
 static FLOWS: [&[u8]; WORKERS] = [b"a", b"b", b"c"];
 
 const OPENED: &str = "\
     C1 open a 1 1; C1 mktkt 1 base; C1 fund 1 flow a; C1 open b 2 1; C1 mktkt 1 base; C1 fund 2 flow b; \
     C1 open c 1024 1; C1 mktkt 1 base; C1 fund 3 flow c";
 
+const HELD_FLOW: FlowNo = FlowNo(3);
+
 const HELD: &str = "C1 hold c; pause 1; C1 resume c";
+
+/// A flow that is held throughout, the packets that its buffer takes, and those that its worker offers. The buffer
+/// takes more than the worker hears of at first, and less than that and half as many more.
+const HELD_THROUGHOUT: &str = "C1 open c 100 1; C1 mktkt 1 base; C1 fund 1 flow c; C1 hold c";
+
+const ROOM: u64 = 100;
+
+const HELD_PACKETS: u64 = 300;
 
 /// After that many packets a worker waits for its connection. It waits each time but one of that many for a
 /// millisecond, so that the link falls asleep.
@@ -50,8 +65,9 @@ const LONE_PACKETS: u64 = 2000;
 
 const YIELDS: u64 = 40;
 
-/// The number of milliseconds that a run may take.
-const LIMIT: u64 = 40_000;
+/// The looks of a watch, a millisecond apart, after which it ends a run if none of them finds a new entry in the
+/// journal. A whole run may take as long as a slow host makes it.
+const LOOKS: u64 = 20_000;
 
 /// The values that the threads of a run share.
 #[derive(Drop)]
@@ -59,7 +75,7 @@ struct Shared<L: LinkBrand> {
     stage: Stage<Tape, L>,
     stop: Stop,
     is_done: Stop,
-    is_late: Stop,
+    is_stuck: Stop,
 }
 
 // The flow that a worker fills.
@@ -69,13 +85,14 @@ fn flow_of(rt: &impl Abort, worker: u64) -> Name {
     name(rt, flow)
 }
 
-// Offers packets for a flow at the pace of the link. No offer finds the queue full.
+// Offers that many packets for a flow at the pace of the link. No offer finds the queue full.
 fn offers<T: Abort + Wait, L: LinkBrand>(
     rt: &T,
     alloc: Global,
     shared: &Shared<L>,
     worker: u64,
     slot: &Slot<L>,
+    packets: u64,
 ) {
     let pace = &shared.stage.pace;
     let flow = flow_of(rt, worker);
@@ -83,7 +100,7 @@ fn offers<T: Abort + Wait, L: LinkBrand>(
     let end = locked.as_mut().expect(rt, "an end");
     let parker = Parker::new();
     pace.end_waiting(worker);
-    for n in 1..=PACKETS {
+    for n in 1..=packets {
         let parcel = Parcel::new(alloc, b"x").expect(rt, "a payload");
         pace.wait(rt, worker, n);
         let offered = end.offer(rt, flow, parcel);
@@ -102,19 +119,40 @@ fn offers<T: Abort + Wait, L: LinkBrand>(
     pace.begin_waiting(worker);
 }
 
-// Lets everybody go on if the run takes too long.
+// Waits until the run is done, or ends it if nothing more is done in it.
 fn watches<T: Wait, L: LinkBrand>(rt: &T, shared: &Shared<L>) {
     let parker = Parker::new();
-    for _ in 0..LIMIT {
+    let mut known = 0;
+    let mut looks: u64 = 0;
+    for _ in rt.forever() {
         if shared.is_done.is_set() {
             return;
         }
+        let found = entries(rt, shared);
+        looks = if found == known {
+            looks.saturating_add(1)
+        } else {
+            0
+        };
+        known = found;
+        if looks >= LOOKS {
+            return ends(shared);
+        }
         parker.park_timeout(rt, Duration::from_millis(1));
     }
-    shared.is_late.set();
+}
+
+// Lets everybody go on, since the run is stuck.
+fn ends<L: LinkBrand>(shared: &Shared<L>) {
+    shared.is_stuck.set();
     shared.stop.set();
     shared.stage.pace.end();
     shared.stage.pace.ring();
+}
+
+// The number of entries in the journal.
+fn entries<T: Wait, L: LinkBrand>(rt: &T, shared: &Shared<L>) -> u64 {
+    shared.stage.port.lock(rt).recorder().journal().len()
 }
 
 // The number of packets sent.
@@ -154,14 +192,26 @@ fn offers_alone<T: Abort + Wait, L: LinkBrand>(
     }
 }
 
-// Waits until that many packets were sent, or the run takes too long.
+// Waits until that many packets were sent, or the run is stuck.
 fn while_unsent<T: Wait, L: LinkBrand>(rt: &T, shared: &Shared<L>, wanted: u64) {
     for _ in rt.forever() {
-        if written(rt, shared) >= wanted || shared.is_late.is_set() {
+        if written(rt, shared) >= wanted || shared.is_stuck.is_set() {
             return;
         }
         thread::yield_now();
     }
+}
+
+// The buffer of the flow that is held takes all packets of its worker.
+fn takes_all<T: Abort + Wait, L: LinkBrand>(rt: &T, shared: &Shared<L>) {
+    let locked = shared.stage.port.lock(rt);
+    let backlog = locked
+        .recorder()
+        .engine()
+        .backlog(HELD_FLOW)
+        .expect(rt, "a flow");
+    let limit = u64::from(backlog.limit);
+    holds(rt, ("a held flow takes all", limit), limit >= PACKETS);
 }
 
 // The duties of the workers of a run.
@@ -169,6 +219,43 @@ fn while_unsent<T: Wait, L: LinkBrand>(rt: &T, shared: &Shared<L>, wanted: u64) 
 enum Load {
     Together,
     Alone,
+    Held,
+}
+
+impl Load {
+    fn opening(self) -> &'static str {
+        match self {
+            Load::Held => HELD_THROUGHOUT,
+            _ => OPENED,
+        }
+    }
+
+    // The packets that are accepted, and those that are sent. A flow that is held and full takes no more.
+    fn totals(self) -> (u64, u64) {
+        let together = WORKERS as u64 * PACKETS;
+        match self {
+            Load::Together => (together, together),
+            Load::Alone => (LONE_PACKETS, LONE_PACKETS),
+            Load::Held => (ROOM, 0),
+        }
+    }
+}
+
+// Does the duty of a worker, if it has one.
+fn worker_works<T: Abort + Wait, L: LinkBrand>(
+    rt: &T,
+    alloc: Global,
+    shared: &Shared<L>,
+    load: Load,
+    worker: u64,
+    slot: &Slot<L>,
+) {
+    match (load, worker) {
+        (Load::Together, _) => offers(rt, alloc, shared, worker, slot, PACKETS),
+        (Load::Alone, 1) => offers_alone(rt, alloc, shared, slot),
+        (Load::Held, 3) => offers(rt, alloc, shared, worker, slot, HELD_PACKETS),
+        _ => (),
+    }
 }
 
 // Lets the workers and the clerk do their work.
@@ -177,20 +264,15 @@ where
     T: Abort + Threads + Wait + Sync,
     L: LinkBrand + Send,
 {
-    plays(rt, alloc, &shared.stage, &[OPENED]);
+    plays(rt, alloc, &shared.stage, &[load.opening()]);
+    if load == Load::Together {
+        takes_all(rt, shared);
+    }
     thread::scope(thread::scope_env(), rt, |workers| {
         for (at, slot) in shared.stage.ends.iter().enumerate() {
             let number = at as u64 + 1;
-            let is_started = match load {
-                Load::Together => workers
-                    .spawn(move || offers(rt, alloc, shared, number, slot))
-                    .is_ok(),
-                Load::Alone if at == 0 => workers
-                    .spawn(move || offers_alone(rt, alloc, shared, slot))
-                    .is_ok(),
-                Load::Alone => true,
-            };
-            holds(rt, number, is_started);
+            let worker = workers.spawn(move || worker_works(rt, alloc, shared, load, number, slot));
+            holds(rt, number, worker.is_ok());
         }
         if load == Load::Together {
             plays(rt, alloc, &shared.stage, &[HELD; HOLDS]);
@@ -220,7 +302,7 @@ where
     })
 }
 
-// All packets came to their flows, and all were sent.
+// All packets came to their flows and were sent, but for those of a flow that is held throughout.
 fn sends_all<T, L>(rt: &T, alloc: Global, new: NewLink<Tape>, load: Load)
 where
     T: Abort + Threads + Wait + Sync,
@@ -231,19 +313,15 @@ where
         stage: staged(rt, alloc, new, 1),
         stop: Stop::new(),
         is_done: Stop::new(),
-        is_late: Stop::new(),
+        is_stuck: Stop::new(),
     };
     let end = runs(rt, alloc, &shared, load);
-    holds(rt, "nobody sleeps for ever", !shared.is_late.is_set());
+    holds(rt, "nobody sleeps for ever", !shared.is_stuck.is_set());
     same(rt, "how the link ended", end, LinkEnd::Drained);
     holds(rt, "the link has ended", shared.stage.has_ended.is_set());
     let totals = shared.stage.port.lock(rt).recorder().engine().totals();
-    let all = match load {
-        Load::Together => WORKERS as u64 * PACKETS,
-        Load::Alone => LONE_PACKETS,
-    };
     let packets = (totals.accepted, totals.written);
-    same(rt, "packets accepted and written", packets, (all, all));
+    same(rt, "packets accepted and written", packets, load.totals());
     drop(shared);
 }
 
@@ -255,10 +333,21 @@ fn passes<T: Abort + Threads + Wait + Sync>(rt: &T, alloc: Global, load: Load) {
 
 #[test]
 fn packets_of_busy_workers_are_sent(rt: HostRuntime) {
-    passes(&rt, rt.alloc(), Load::Together);
+    for _ in 0..RUNS {
+        passes(&rt, rt.alloc(), Load::Together);
+    }
 }
 
 #[test]
 fn lone_packets_are_sent(rt: HostRuntime) {
-    passes(&rt, rt.alloc(), Load::Alone);
+    for _ in 0..RUNS {
+        passes(&rt, rt.alloc(), Load::Alone);
+    }
+}
+
+#[test]
+fn a_held_flow_keeps_no_worker_back(rt: HostRuntime) {
+    for _ in 0..RUNS {
+        passes(&rt, rt.alloc(), Load::Held);
+    }
 }

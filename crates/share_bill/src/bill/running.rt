@@ -8,6 +8,7 @@ ghost use Rattle.share_bill.specs.Bills.{row_with, tenant_flow};
 ghost use Rattle.share_bill.specs.BookLines.{next_event, event_of, IsUnstampedLine};
 ghost use Rattle.share_bill.specs.Makings.{IsBookLink, TakesLine, ObeysLine, IsFault, KeepsMade, HasFewUnits};
 ghost use Rattle.share_bill.specs.Makings.{is_memory, unread};
+ghost use Rattle.share_bill.specs.Repairs.{HasRowsOf, KeepsParts};
 ghost use Rattle.share_bill.specs.declared.bill.line.LineFault.TheVariants.{NoMemory};
 ghost use Rattle.share_bill.specs.Sums.{sums_at};
 
@@ -88,10 +89,11 @@ impl<S: Rates + Drop> Bill<S> {
 
 impl<S: Rates> Bill<S> {
     /// Takes the next line of the book, without its line feed. It is read, its event is made, and what it sent or
-    /// opened is kept. After an error no further line is to be taken.
+    /// opened is kept. After an error no further line is to be taken, and the rows are those of the lines before it.
     pub fn line(&mut self, alloc: Global, bytes: &[u8]) -> Result<(), LineFault>
         ensures takes { MatchResult result (λ _. TakesLine self.old bytes.now self.new)
             (λ fault. IsFault (next_event self.old.kind self.old.link.live bytes.now) fault) }
+        ensures rest { IfErr result (λ fault. HasRowsOf fault self.old self.new) }
         ensures book { IsBookLink self.new.link }
         ensures range { AreInRange self.old.link.rates }
     {
@@ -138,6 +140,8 @@ fn obey<S: Rates>(
     ensures obeys { MatchResult result
         (λ _. ObeysLine engine.old tenants.old.items sent.old line engine.new tenants.new.items sent.new)
         (λ fault. IsFault (event_of engine.old.live line) fault) }
+    ensures rest { IfErr result (λ fault.
+        KeepsParts fault tenants.old.items sent.old tenants.new.items sent.new) }
     ensures book { IsBookLink engine.new }
 {
     match make(engine, line) {

@@ -4,6 +4,7 @@ ghost use Rattle.std.specs.Prelude.{IfOk, IfErr};
 ghost use Rattle.share_model.specs.declared.rates.Rate.{Rate};
 ghost use Rattle.share_bill.specs.Texts.{text_of, cut_of, HasReadAt, IsAt, PassesLine, IsFirstFault, IsTextFault};
 ghost use Rattle.share_bill.specs.Texts.{TakesLines, TakesAll, Bills, IsBook, IsRunText};
+ghost use Rattle.share_bill.specs.Repairs.{StopsBy};
 ghost use Rattle.share_bill.specs.declared.bill.text.NotBilled.TheVariants.{NoMemory};
 
 use super::kind::kind_of;
@@ -116,7 +117,9 @@ fn wrong(number: u64, wrong: Wrong) -> NotBilled
 }
 
 // The kind of a text, by its first line.
-fn first_line<I: TellingReader + Drop>(lines: &mut IncomingLines<I>) -> Result<Kind, NotBilled>
+pub(super) fn first_line<I: TellingReader + Drop>(
+    lines: &mut IncomingLines<I>,
+) -> Result<Kind, NotBilled>
     ensures { (first : I) → IsAt I.left I.gives first [] lines.old
         → MatchResult result (λ kind. IsAt I.left I.gives first (text_of kind []) lines.new)
         (λ fault. IsFirstFault I.left I.gives first fault) }
@@ -144,7 +147,7 @@ fn take_line<S: Rates, I: TellingReader + Drop>(
         → MatchResult result
         (λ more. MatchBool more (TakesLines I.left I.gives first rates bill.new lines.new (number + 1))
         (TakesAll I.left I.gives first rates bill.new lines.new number))
-        (λ fault. IsTextFault I.left I.gives first rates fault) }
+        (λ fault. StopsBy I.left I.gives first rates bill.new fault) }
 {
     match next_line(lines) {
         Next::Line => match bill.line(alloc, lines.line()) {
@@ -160,14 +163,14 @@ fn take_line<S: Rates, I: TellingReader + Drop>(
 
 // Takes the lines after the first one, and answers the number of the line that would come next. A life has no events
 // for more lines than these.
-fn take_lines<S: Rates, I: TellingReader + Drop>(
+pub(super) fn take_lines<S: Rates, I: TellingReader + Drop>(
     alloc: Global,
     bill: &mut Bill<S>,
     lines: &mut IncomingLines<I>,
 ) -> Result<u64, NotBilled>
     ensures { (first : I) (rates : List Rate) → TakesLines I.left I.gives first rates bill.old lines.old 2
         → MatchResult result (λ number. TakesAll I.left I.gives first rates bill.new lines.new number)
-        (λ fault. IsTextFault I.left I.gives first rates fault) }
+        (λ fault. StopsBy I.left I.gives first rates bill.new fault) }
 {
     for number in 2..MAX_LIFE + 3 {
         if !take_line(alloc, bill, lines, number)? {

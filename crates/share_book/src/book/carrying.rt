@@ -39,7 +39,7 @@ impl<S: Rates> NewBook<S> {
 
 impl Closed {
     // The number of packets of all tenants that wait.
-    #[tactic(auto, using(std::proofs::lemmas::List::Sums::sum_by_more, share_gateway::proofs::PlanChangeLemmas::few_tenants))]
+    #[tactic(auto, using(share_gateway::proofs::PlanChangeLemmas::few_tenants))]
     fn left(&self) -> u64
         ensures { result ≡ left_in self.now }
     {

@@ -2,7 +2,7 @@
 
 use crate::tests::assertions::{same, tenant_of};
 use share_catalog::Time;
-use share_messages::{KINDS, Kind, Line, LinesLeftOut};
+use share_messages::{Decision, KINDS, Kind, Line, LinesLeftOut, Printed};
 use std::test::Fail;
 
 /// A kind, its word, whether its lines are left out if there are many, and whether a quiet gateway prints them.
@@ -24,6 +24,7 @@ static WORDS: [(Kind, &str, bool, bool); KINDS] = [
     (Kind::Bad, "bad", true, true),
     (Kind::Left, "left", false, true),
     (Kind::Ended, "ended", true, false),
+    (Kind::Client, "client", true, false),
 ];
 
 #[test]
@@ -109,5 +110,46 @@ fn lines_without_a_time_have_a_hyphen(rt: HostRuntime) -> Result<(), Fail> {
         count.as_str(),
         "lines left out: 18446744073709551615",
     );
+    Ok(())
+}
+
+/// The number of lines left out before a line, whether the line is printed, and what is printed then.
+static PRINTED: [(u64, bool, &str); 4] = [
+    (0, false, ""),
+    (
+        0,
+        true,
+        "2026-01-31T23:59:59Z memory acme 3 packets were dropped: out of memory\n",
+    ),
+    (
+        1,
+        false,
+        "2026-01-31T23:59:59Z memory - lines left out: 1\n",
+    ),
+    (
+        12,
+        true,
+        "2026-01-31T23:59:59Z memory - lines left out: 12
+2026-01-31T23:59:59Z memory acme 3 packets were dropped: out of memory
+",
+    ),
+];
+
+#[test]
+fn counts_come_before_lines(rt: HostRuntime) -> Result<(), Fail> {
+    let line = Line {
+        time: Time::new(2026, 1, 31, 23, 59, 59),
+        kind: Kind::Memory,
+        tenant: tenant_of(&rt, "acme"),
+        why: "3 packets were dropped: out of memory",
+    };
+    for &(left_out, is_printed, wanted) in &PRINTED {
+        let decision = Decision {
+            left_out,
+            is_printed,
+        };
+        let text = format!(in rt.alloc(); "{}", Printed { decision, line })?;
+        same(&rt, wanted, text.as_str(), wanted);
+    }
     Ok(())
 }

@@ -55,7 +55,7 @@ fn lines_are_printed(rt: HostRuntime) -> Result<(), Fail> {
     refuse(&rt, &mut messages, &recorder, 13, 13);
     messages.say(&recorder, Kind::Lost, None, "reset by 192.0.2.7:7003\n");
     messages.flush(&recorder);
-    messages.say(&recorder, Kind::Ended, None, "");
+    messages.say_text(&recorder, Kind::Ended, None, "");
     let printed = recorder.printed();
     same(&rt, "printed", printed.as_str(), PRINTED);
     Ok(())
@@ -97,7 +97,7 @@ fn quiet_gateways_print_little(rt: HostRuntime) -> Result<(), Fail> {
     let mut messages = Messages::new(rt.alloc(), true);
     let acme = name_of(&rt, "acme");
     messages.say(&recorder, Kind::Started, None, "runs");
-    messages.say(&recorder, Kind::Disk, None, "full");
+    messages.say_text(&recorder, Kind::Disk, None, "full");
     messages.say(&recorder, Kind::Bad, None, "000007 is no run");
     messages.say(&recorder, Kind::Recovered, None, "book 6: cut, and closed");
     messages.say(&recorder, Kind::Dropped, Some(acme), "3 packets");

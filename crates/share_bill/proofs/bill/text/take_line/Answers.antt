@@ -1,6 +1,7 @@
 use Rattle.std.proofs.Common.{subst, ap, sym, ◌∙◌}
 use Rattle.share_bill.specs.BookLines.{next_event}
 use Rattle.share_bill.specs.Makings.{IsFault, TakesLine}
+use Rattle.share_bill.specs.Repairs.{HasRowsOf}
 use Rattle.share_bill.proofs.TextLemmas.{line-taken, line-wrong, line-long}
 use Rattle.share_bill.proofs.bill.text.take_line.Goals as goal
 
@@ -16,9 +17,11 @@ returns-in-Err-Wrong g c = λ first rates was.
     let event = next_event c.args.bill.now.kind c.args.bill.now.link.live in
     let told = subst (IsFault (event c.line.result.now)) c.in-Err-Wrong.field-0-is c.in-Err-Wrong.ensures.takes in
     rw c.wrong.ensures
-    (line-wrong g.I.TellingReader.left g.I.TellingReader.gives first rates c.args.bill.now c.args.lines.now
-    c.next_line.new.lines c.args.number c.in-Err-Wrong.why was (c.in-Line.ensures first _ was.at)
-    (ap event (sym c.line.ensures) ∙ told))
+    (line-wrong g.I.TellingReader.left g.I.TellingReader.gives first rates c.args.bill.now c.line-in-Line.new.self
+    c.args.lines.now c.next_line.new.lines c.args.number c.in-Err-Wrong.why was (c.in-Line.ensures first _ was.at)
+    (ap event (sym c.line.ensures) ∙ told)
+    (subst (λ fault. HasRowsOf fault c.args.bill.now c.line-in-Line.new.self) c.in-Err-Wrong.field-0-is
+    c.in-Err-Wrong.ensures.rest))
 
 pub returns-in-Long : goal.returns-in-Long
 returns-in-Long g c = λ first rates was.

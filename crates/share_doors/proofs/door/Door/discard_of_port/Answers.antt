@@ -8,13 +8,13 @@ pub returns-then-is_over : goal.returns-then-is_over
 returns-then-is_over c = drops_none _ _ c.self.view_is
 
 pub returns-in-Dropped : goal.returns-in-Dropped
-returns-in-Dropped c = drops_packet _ _ _ _ c.self.view_is c.in-Dropped.ensures c.count_dropped.ensures
+returns-in-Dropped c = drops_packet _ _ _ _ c.self.view_is c.in-Dropped.ensures.dropped c.count_dropped.ensures
 
 pub returns-in-More : goal.returns-in-More
-returns-in-More c = drops_unread _ _ _ c.self.view_is c.in-More.ensures
+returns-in-More c = drops_unread _ _ _ c.self.view_is c.in-More.ensures.dropped
 
 pub returns-in-Nothing : goal.returns-in-Nothing
-returns-in-Nothing c = drops_unread _ _ _ c.self.view_is c.in-Nothing.ensures
+returns-in-Nothing c = drops_unread _ _ _ c.self.view_is c.in-Nothing.ensures.dropped
 
 pub returns-in-Over : goal.returns-in-Over
-returns-in-Over c = drops_unread _ _ _ c.self.view_is c.in-Over.ensures
+returns-in-Over c = drops_unread _ _ _ c.self.view_is c.in-Over.ensures.dropped

@@ -1,10 +1,16 @@
-use Rattle.share_downlink.proofs.DatagramLemmas.{takes_one, takes_elsewhere}
+use Rattle.std.proofs.Common.{sym, ◌∙◌, refl}
+use Rattle.share_downlink.specs.Datagrams.{from_elsewhere, from_there}
 use Rattle.share_downlink.proofs.datagrams.Datagrams.give.Goals as goal
 
-pub returns-then-is_none_or : goal.returns-then-is_none_or
-returns-then-is_none_or g c =
-    rw (← c.self.view_is) (takes_one g.D.Deliver.delivers _ _ _ _ c.args.datagram.now c.give.ensures)
+pub returns-then-takes_sender : goal.returns-then-takes_sender
+returns-then-takes_sender g c = rw (← c.self.view_is) (record {
+  same = refl;
+  takes = from_there (sym c.takes_sender.ensures ∙ c.if-takes_sender.true) c.give.ensures;
+})
 
-pub returns-else-is_none_or : goal.returns-else-is_none_or
-returns-else-is_none_or g c =
-    rw (← c.self.view_is) (takes_elsewhere g.D.Deliver.delivers _ _ _ c.drop_one.ensures)
+pub returns-else-takes_sender : goal.returns-else-takes_sender
+returns-else-takes_sender g c = rw (← c.self.view_is) (record {
+  same = refl;
+  takes = from_elsewhere (sym c.takes_sender.ensures ∙ c.if-takes_sender.false)
+      (record { taker = refl; tally = c.drop_one.ensures });
+})

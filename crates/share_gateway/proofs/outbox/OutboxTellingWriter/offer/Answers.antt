@@ -2,8 +2,10 @@ use Rattle.std.proofs.Common.{refl, inl, inr, arith, ap}
 use Rattle.share_gateway.specs.ByteQueue.{ByteQueueView}
 use Rattle.share_gateway.proofs.OutboxLemmas.{not_taken, is_taken, holds_more}
 use Rattle.share_gateway.proofs.outbox.OutboxTellingWriter.offer.Goals as goal
-use Rattle.share_gateway.proofs.outbox.OutboxTellingWriter.offer.Goals.{then-len-ge-MAX_FRAMES-via-then-len-ge-MAX_FRAMES}
-use Rattle.share_gateway.proofs.outbox.OutboxTellingWriter.offer.Goals.{then-len-ge-MAX_FRAMES-via-else-len-ge-MAX_FRAMES+then-room-piece}
+use Rattle.share_gateway.proofs.outbox.OutboxTellingWriter.offer.Goals.{
+  then-len-ge-MAX_FRAMES-via-then-len-ge-MAX_FRAMES,
+  then-len-ge-MAX_FRAMES-via-else-len-ge-MAX_FRAMES+then-room-piece,
+}
 
 pub returns-then-len-ge-MAX_FRAMES : goal.returns-then-len-ge-MAX_FRAMES
 returns-then-len-ge-MAX_FRAMES c = (

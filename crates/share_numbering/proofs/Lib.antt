@@ -1,0 +1,4 @@
+pub mod LawLemmas
+pub mod NumberingLemmas
+pub mod RowLemmas
+pub mod TextLemmas
